@@ -1,5 +1,6 @@
-/* Times the library for C, and hiredis on the same bytes: nanoseconds a call, by the processor's time
-   of the thread, the least of some rounds. bench/c builds and runs it. */
+/* Times the library for C, careful Rust (bench/bytes_in_rust.rs) and hiredis on the same bytes:
+   nanoseconds a call, by the processor's time of the thread, the least of some rounds in turn. What
+   Rust writes has to be what the library writes. bench/c builds and runs it. */
 #define _GNU_SOURCE
 #include "slotroute.h"
 
@@ -15,6 +16,7 @@ static double now(void) {
     return (double)time.tv_sec * 1e9 + (double)time.tv_nsec;
 }
 
+/* The least time of a call, in rounds of so many calls. */
 #define LEAST(least, times, call)                                    \
     do {                                                             \
         least = 1e18;                                                \
@@ -27,6 +29,29 @@ static double now(void) {
     } while (0)
 
 static volatile uint64_t sink;
+
+size_t careful_reply_len(const uint8_t *bytes, size_t len);
+size_t careful_split(const uint8_t *request, size_t len, uint16_t *slots, size_t *ends, size_t parts,
+                     uint8_t *out, size_t room);
+size_t careful_combine(const uint8_t *request, size_t len, const uint8_t *replies, size_t replies_len,
+                       uint8_t *out, size_t room);
+size_t careful_split_pipeline(const uint8_t *requests, size_t len, const uint16_t *numbers, uint16_t *nodes,
+                              size_t *counts, size_t *ends, size_t batches, uint8_t *out, size_t room);
+size_t careful_combine_pipeline(const uint8_t *requests, size_t len, const uint16_t *numbers,
+                                const uint8_t *replies, size_t replies_len, uint8_t *out, size_t room);
+
+/* Ends unless Rust wrote the same bytes. */
+static void same(const char *row, const uint8_t *own, size_t len, const uint8_t *other, size_t other_len) {
+    if (len == other_len && memcmp(own, other, len) == 0) return;
+    fprintf(stderr, "%s: Rust writes other bytes\n", row);
+    exit(1);
+}
+
+static void row(const char *call, size_t size, double own, double rust, double hiredis) {
+    printf("| %s | %zu | %.0f |", call, size, own);
+    if (rust > 0) printf(" %.0f (%.2f) |", rust, own / rust); else printf(" |");
+    if (hiredis > 0) printf(" %.0f |\n", hiredis); else printf(" |\n");
+}
 
 typedef struct text {
     uint8_t *bytes;
@@ -74,13 +99,14 @@ static uint64_t read_by_hiredis(const text *of) {
 }
 
 static void time_reading(void) {
-    double own, other;
+    double own, rust, other;
     for (size_t items = 1; items <= 1000; items *= 10) {
         text reply = array_of(items);
         slotroute_told told = {0};
         LEAST(own, 20000 / items + 1, sink += slotroute_reply_len(reply.bytes, reply.len, &told));
+        LEAST(rust, 20000 / items + 1, sink += careful_reply_len(reply.bytes, reply.len));
         LEAST(other, 20000 / items + 1, sink += read_by_hiredis(&reply));
-        printf("| read a reply of bulk strings | %zu | %.0f | %.0f |\n", items, own, other);
+        row("slotroute_reply_len (hiredis: read it)", items, own, rust, other);
         free(reply.bytes);
     }
 }
@@ -97,89 +123,137 @@ static uint64_t format_by_hiredis(size_t keys, size_t parts, const char **words,
     return sum;
 }
 
-static void time_splitting(const char *name) {
-    double own, other;
+/* Room for what a split of a request writes. */
+typedef struct parts {
+    uint16_t *slots;
+    size_t *ends;
+    text out;
+    size_t room;
+} parts;
+
+static parts room_of(size_t keys) {
+    size_t room = keys * 128 + 64;
+    parts made = {calloc(keys, sizeof *made.slots), calloc(keys, sizeof *made.ends), some_room(room), room};
+    if (made.slots == NULL || made.ends == NULL) exit(3);
+    return made;
+}
+
+static void free_parts(parts *of) {
+    free(of->slots);
+    free(of->ends);
+    free(of->out.bytes);
+}
+
+static void time_splitting(void) {
+    double own, rust, other;
     for (size_t keys = 10; keys <= 1000; keys *= 100) {
-        text request = request_of(name, keys), out = some_room(keys * 128 + 64);
-        uint16_t *slots = calloc(keys, sizeof *slots);
-        size_t *ends = calloc(keys, sizeof *ends), *lens = calloc(keys + 1, sizeof *lens);
+        text request = request_of("DEL", keys);
+        parts to = room_of(keys), in_rust = room_of(keys);
+        size_t *lens = calloc(keys + 1, sizeof *lens), rust_len = 0;
         const char **words = calloc(keys + 1, sizeof *words);
         slotroute_told told = {0};
         for (size_t i = 0; i <= keys; i++) {
-            words[i] = i == 0 ? name : "key:1234567";
+            words[i] = i == 0 ? "DEL" : "key:1234567";
             lens[i] = strlen(words[i]);
         }
         LEAST(own, 20000 / keys + 1,
-              sink += slotroute_split(request.bytes, request.len, slots, keys, ends, keys, out.bytes,
-                                      keys * 128 + 64, &told));
+              sink += slotroute_split(request.bytes, request.len, NULL, 0, to.slots, keys, to.ends, keys,
+                                      to.out.bytes, to.room, &told));
+        LEAST(rust, 20000 / keys + 1,
+              rust_len = careful_split(request.bytes, request.len, in_rust.slots, in_rust.ends, keys,
+                                       in_rust.out.bytes, in_rust.room));
+        same("split", to.out.bytes, told.bytes, in_rust.out.bytes, rust_len);
         LEAST(other, 20000 / keys + 1, sink += format_by_hiredis(keys, told.parts, words, lens));
-        printf("| split %s (hiredis: write its %zu parts) | %zu | %.0f | %.0f |\n", name, told.parts, keys,
-               own, other);
+        row("slotroute_split of a DEL (hiredis: write its parts)", keys, own, rust, other);
         LEAST(own, 20000 / keys + 1, sink += slotroute_request_len(request.bytes, request.len, &told));
+        LEAST(rust, 20000 / keys + 1, sink += careful_reply_len(request.bytes, request.len));
         LEAST(other, 20000 / keys + 1, sink += read_by_hiredis(&request));
-        printf("| length of a request (hiredis: read it) | %zu | %.0f | %.0f |\n", keys, own, other);
+        row("slotroute_request_len (hiredis: read it)", keys, own, rust, other);
         free(request.bytes);
-        free(out.bytes);
-        free(slots);
-        free(ends);
+        free_parts(&to);
+        free_parts(&in_rust);
         free(lens);
         free(words);
     }
 }
 
+/* The replies to the parts of an MGET that was split. */
+static text replies_to(const parts *to, size_t count, size_t keys) {
+    text replies = some_room(keys * 32 + 64);
+    for (size_t i = 0; i < count; i++) {
+        size_t values = (size_t)atoi((char *)to->out.bytes + (i == 0 ? 0 : to->ends[i - 1]) + 1) - 1;
+        add(&replies, "*%zu\r\n", values);
+        for (size_t j = 0; j < values; j++) add(&replies, "$5\r\nvalue\r\n", j);
+    }
+    return replies;
+}
+
 static void time_combining(void) {
-    double own;
+    double own, rust;
     for (size_t keys = 10; keys <= 1000; keys *= 100) {
-        text request = request_of("MGET", keys), out = some_room(keys * 128 + 64);
-        uint16_t *slots = calloc(keys, sizeof *slots);
-        size_t *ends = calloc(keys, sizeof *ends);
+        text request = request_of("MGET", keys);
+        parts to = room_of(keys), in_rust = room_of(keys);
         slotroute_told told = {0};
-        text replies = some_room(keys * 32 + 64);
-        slotroute_split(request.bytes, request.len, slots, keys, ends, keys, out.bytes, keys * 128 + 64,
-                        &told);
-        for (size_t i = 0, parts = told.parts; i < parts; i++) {
-            size_t values = (size_t)atoi((char *)out.bytes + (i == 0 ? 0 : ends[i - 1]) + 1) - 1;
-            add(&replies, "*%zu\r\n", values);
-            for (size_t j = 0; j < values; j++) add(&replies, "$5\r\nvalue\r\n", j);
-        }
+        size_t rust_len = 0;
+        slotroute_split(request.bytes, request.len, NULL, 0, to.slots, keys, to.ends, keys, to.out.bytes,
+                        to.room, &told);
+        text replies = replies_to(&to, told.parts, keys);
         LEAST(own, 20000 / keys + 1,
-              sink += slotroute_combine(request.bytes, request.len, replies.bytes, replies.len, out.bytes,
-                                        keys * 128 + 64, &told));
-        printf("| combine the replies of MGET | %zu | %.0f | |\n", keys, own);
+              sink += slotroute_combine(request.bytes, request.len, NULL, 0, replies.bytes, replies.len,
+                                        to.out.bytes, to.room, &told));
+        LEAST(rust, 20000 / keys + 1,
+              rust_len = careful_combine(request.bytes, request.len, replies.bytes, replies.len,
+                                         in_rust.out.bytes, in_rust.room));
+        same("combine", to.out.bytes, told.bytes, in_rust.out.bytes, rust_len);
+        row("slotroute_combine of an MGET", keys, own, rust, 0);
         free(request.bytes);
-        free(out.bytes);
+        free_parts(&to);
+        free_parts(&in_rust);
         free(replies.bytes);
-        free(slots);
-        free(ends);
     }
 }
 
-/* Pipelines of SET by a table in which each slot has another node than the next. */
+/* A pipeline of SET, and the replies to it. */
+static void make_pipeline(size_t commands, text *requests, text *replies) {
+    *requests = some_room(commands * 64);
+    *replies = some_room(commands * 8);
+    for (size_t i = 0; i < commands; i++) {
+        add(requests, "*3\r\n$3\r\nSET\r\n$11\r\nkey:%07zu\r\n", i * 7919);
+        add(requests, "$8\r\nvalue%03zu\r\n", i);
+        add(replies, "+OK\r\n", i);
+    }
+}
+
+/* By a table in which each slot has another node than the next. */
 static void time_pipelines(void) {
-    static uint16_t numbers[SLOTROUTE_SLOTS], nodes[3];
-    size_t counts[3], ends[3];
-    double own;
+    static uint16_t numbers[SLOTROUTE_SLOTS], nodes[3], rust_nodes[3];
+    size_t counts[3], ends[3], rust_counts[3], rust_ends[3], rust_len = 0;
+    double own, rust;
     for (size_t slot = 0; slot < SLOTROUTE_SLOTS; slot++) numbers[slot] = (uint16_t)(slot % 3);
     for (size_t commands = 1; commands <= 1000; commands *= 10) {
-        text requests = some_room(commands * 64), replies = some_room(commands * 8);
-        text out = some_room(commands * 64);
+        text requests, replies, out = some_room(commands * 64), in_rust = some_room(commands * 64);
         slotroute_told told = {0};
-        for (size_t i = 0; i < commands; i++) {
-            add(&requests, "*3\r\n$3\r\nSET\r\n$11\r\nkey:%07zu\r\n", i * 7919);
-            add(&requests, "$8\r\nvalue%03zu\r\n", i);
-            add(&replies, "+OK\r\n", i);
-        }
+        make_pipeline(commands, &requests, &replies);
         LEAST(own, 20000 / commands + 1,
-              sink += slotroute_split_pipeline(requests.bytes, requests.len, numbers, SLOTROUTE_SLOTS, nodes, 3,
-                                               counts, 3, ends, 3, out.bytes, commands * 64, &told));
-        printf("| split a pipeline of SET | %zu | %.0f | |\n", commands, own);
+              sink += slotroute_split_pipeline(requests.bytes, requests.len, NULL, 0, numbers, SLOTROUTE_SLOTS,
+                                               nodes, 3, counts, 3, ends, 3, out.bytes, commands * 64, &told));
+        LEAST(rust, 20000 / commands + 1,
+              rust_len = careful_split_pipeline(requests.bytes, requests.len, numbers, rust_nodes, rust_counts,
+                                                rust_ends, 3, in_rust.bytes, commands * 64));
+        same("split_pipeline", out.bytes, told.bytes, in_rust.bytes, rust_len);
+        row("slotroute_split_pipeline of SET", commands, own, rust, 0);
         LEAST(own, 20000 / commands + 1,
-              sink += slotroute_combine_pipeline(requests.bytes, requests.len, numbers, SLOTROUTE_SLOTS,
+              sink += slotroute_combine_pipeline(requests.bytes, requests.len, NULL, 0, numbers, SLOTROUTE_SLOTS,
                                                  replies.bytes, replies.len, out.bytes, commands * 64, &told));
-        printf("| combine its replies | %zu | %.0f | |\n", commands, own);
+        LEAST(rust, 20000 / commands + 1,
+              rust_len = careful_combine_pipeline(requests.bytes, requests.len, numbers, replies.bytes,
+                                                  replies.len, in_rust.bytes, commands * 64));
+        same("combine_pipeline", out.bytes, told.bytes, in_rust.bytes, rust_len);
+        row("slotroute_combine_pipeline of SET", commands, own, rust, 0);
         free(requests.bytes);
         free(replies.bytes);
         free(out.bytes);
+        free(in_rust.bytes);
     }
 }
 
@@ -193,13 +267,13 @@ static void time_the_rest(void) {
     text get = request_of("GET", 1), map = some_room(4096);
     const uint8_t *moved = (const uint8_t *)"MOVED 3999 127.0.0.1:6381";
     LEAST(own, 1000000, sink += slotroute_slot((const uint8_t *)"foo", 3));
-    printf("| slot of a key of 3 bytes | | %.1f | |\n", own);
-    LEAST(own, 20000, sink += slotroute_route(get.bytes, get.len, 1, &routed, &told));
-    printf("| route of a GET | | %.0f | |\n", own);
+    printf("| slotroute_slot | 3 bytes | %.1f | | |\n", own);
+    LEAST(own, 20000, sink += slotroute_route(get.bytes, get.len, NULL, 0, 1, &routed, &told));
+    row("slotroute_route of a GET", 1, own, 0, 0);
     LEAST(own, 20000,
           sink += slotroute_redirect(moved, strlen((const char *)moved), moved, 0, lines, sizeof lines,
                                      &redirected));
-    printf("| read MOVED | | %.0f | |\n", own);
+    row("slotroute_redirect", 1, own, 0, 0);
     add(&map, "*%zu\r\n", 3);
     for (size_t i = 0; i < 3; i++) {
         add(&map, "*3\r\n:%zu\r\n", i * 5462);
@@ -209,15 +283,15 @@ static void time_the_rest(void) {
     LEAST(own, 20,
           sink += slotroute_table(map.bytes, map.len, moved, 0, 0, 0, numbers, SLOTROUTE_SLOTS, lines,
                                   sizeof lines, &told));
-    printf("| table of a map of 3 ranges | | %.0f | |\n", own);
+    row("slotroute_table, ranges", 3, own, 0, 0);
     free(get.bytes);
     free(map.bytes);
 }
 
 int main(void) {
-    puts("| call | keys or items | nanoseconds | of hiredis |\n|---|---|---|---|");
+    puts("| call | size | nanoseconds | careful Rust (ratio) | hiredis |\n|---|---|---|---|---|");
     time_reading();
-    time_splitting("DEL");
+    time_splitting();
     time_combining();
     time_pipelines();
     time_the_rest();

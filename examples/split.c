@@ -15,15 +15,15 @@ int main(void) {
     size_t ends[8] = {0};
     uint8_t out[256] = {0};
     slotroute_told told = {0};
-    uint32_t answer = slotroute_split((const uint8_t *)request, strlen(request), slots, 8, ends, 8,
-                                      out, sizeof out, &told);
+    uint32_t answer = slotroute_split((const uint8_t *)request, strlen(request), NULL, 0, slots, 8,
+                                      ends, 8, out, sizeof out, &told);
     for (size_t i = 0; answer == SLOTROUTE_DONE && i < told.parts; i++) {
         size_t start = i == 0 ? 0 : ends[i - 1];
         printf("slot %u: %zu bytes\n%.*s", slots[i], ends[i] - start, (int)(ends[i] - start),
                (const char *)out + start);
     }
     if (answer == SLOTROUTE_DONE)
-        answer = slotroute_combine((const uint8_t *)request, strlen(request),
+        answer = slotroute_combine((const uint8_t *)request, strlen(request), NULL, 0,
                                    (const uint8_t *)replies, strlen(replies), out, sizeof out, &told);
     if (answer != SLOTROUTE_DONE) {
         size_t len = slotroute_message(answer, out, sizeof out);

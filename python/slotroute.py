@@ -46,7 +46,11 @@ class Refused(Exception):
 
 
 class Library:
-    def __init__(self, path):
+    """The calls of the library. `names` is a text of lines that register a module's commands, as
+    `multi keys sum COUNTKEYS`. The header says what a line has."""
+
+    def __init__(self, path, names=b""):
+        self.names = names, len(names)
         lib = self.lib = ctypes.CDLL(path)
         told = [POINTER(Told)]
         slots, ends = [POINTER(c_uint16), c_size_t], [POINTER(c_size_t), c_size_t]
@@ -57,13 +61,13 @@ class Library:
             ("request_len", BYTES_IN + told, c_uint32),
             ("reply_len", BYTES_IN + told, c_uint32),
             ("scan", [*BYTES_IN, POINTER(Progress)], c_uint32),
-            ("route", [*BYTES_IN, c_uint32, POINTER(Routed), *told], c_uint32),
-            ("split", BYTES_IN + slots + ends + BYTES_OUT + told, c_uint32),
-            ("combine", BYTES_IN * 2 + BYTES_OUT + told, c_uint32),
+            ("route", [*BYTES_IN, *BYTES_IN, c_uint32, POINTER(Routed), *told], c_uint32),
+            ("split", BYTES_IN * 2 + slots + ends + BYTES_OUT + told, c_uint32),
+            ("combine", BYTES_IN * 3 + BYTES_OUT + told, c_uint32),
             ("combine_answers", [c_uint32, c_size_t, *BYTES_IN, *BYTES_OUT, *told], c_uint32),
             ("table", BYTES_IN * 2 + [c_uint32, c_size_t] + slots + BYTES_OUT + told, c_uint32),
-            ("split_pipeline", BYTES_IN + slots * 2 + ends * 2 + BYTES_OUT + told, c_uint32),
-            ("combine_pipeline", BYTES_IN + slots + BYTES_IN + BYTES_OUT + told, c_uint32),
+            ("split_pipeline", BYTES_IN * 2 + slots * 2 + ends * 2 + BYTES_OUT + told, c_uint32),
+            ("combine_pipeline", BYTES_IN * 2 + slots + BYTES_IN + BYTES_OUT + told, c_uint32),
             ("redirect", BYTES_IN * 2 + BYTES_OUT + [POINTER(Redirected)], c_uint32),
         ):
             call = getattr(lib, "slotroute_" + name)
@@ -113,7 +117,7 @@ class Library:
     def route(self, request, only_reads=False):
         routed, told = Routed(), Told()
         answer = self.lib.slotroute_route(
-            request, len(request), only_reads, byref(routed), byref(told)
+            request, len(request), *self.names, only_reads, byref(routed), byref(told)
         )
         self._expect_done(answer, told)
         return routed
@@ -125,7 +129,7 @@ class Library:
             slots, ends = (c_uint16 * parts)(), (c_size_t * parts)()
             out = ctypes.create_string_buffer(room)
             answer = self.lib.slotroute_split(
-                request, len(request), slots, parts, ends, parts, out, room, byref(told)
+                request, len(request), *self.names, slots, parts, ends, parts, out, room, byref(told)
             )
             if answer != TOO_SMALL:
                 break
@@ -138,7 +142,7 @@ class Library:
     def combine(self, request, replies):
         """The one reply, by the replies to the parts in their order."""
         replies = b"".join(replies)
-        data = request, len(request), replies, len(replies)
+        data = request, len(request), *self.names, replies, len(replies)
         return self._written(self.lib.slotroute_combine, data, len(replies) + 64)
 
     def combine_answers(self, policy, replies):
@@ -163,8 +167,8 @@ class Library:
             nodes, counts, ends = (c_uint16 * batches)(), (c_size_t * batches)(), (c_size_t * batches)()
             out = ctypes.create_string_buffer(room)
             answer = self.lib.slotroute_split_pipeline(
-                requests, len(requests), numbers, len(numbers), nodes, batches, counts, batches,
-                ends, batches, out, room, byref(told),
+                requests, len(requests), *self.names, numbers, len(numbers), nodes, batches,
+                counts, batches, ends, batches, out, room, byref(told),
             )  # fmt: skip
             if answer != TOO_SMALL:
                 break
@@ -177,7 +181,7 @@ class Library:
     def combine_pipeline(self, requests, numbers, replies):
         """The replies to the requests, by the replies to the batches, batch after batch."""
         replies = b"".join(replies)
-        data = requests, len(requests), numbers, len(numbers), replies, len(replies)
+        data = requests, len(requests), *self.names, numbers, len(numbers), replies, len(replies)
         return self._written(self.lib.slotroute_combine_pipeline, data, len(replies) + 64)
 
     def redirect(self, text, answering):

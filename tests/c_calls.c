@@ -6,6 +6,8 @@
    c_calls exact     what stands behind what is written stays, and so do the fields that a code does
                      not name; what a server refuses is refused, and the code is that of the first fault
    c_calls threads   random calls by four threads at once, with the results of one thread
+   c_calls null      a null pointer stands for no bytes and for no room
+   c_calls stack     a split takes at most 8 KB of stack, any call at most 16 KB
    c_calls once N    the call of number N: its answer, and a sum of all that it writes. The number 0
                      stands for a call that gets no memory and writes nothing. tests/refusals reads the names
                      at a case: the library's calls that this one makes, and that take memory.
@@ -42,8 +44,12 @@ static const char *const messages[] = {
     "*2\r\n$1\r\na\r\n:1\r\n*4\r\n$1\r\nb\r\n:2\r\n$1\r\na\r\n:3\r\n",
     "%2\r\n+first\r\n|1\r\n+ttl\r\n:9\r\n#t\r\n$1\r\n\r\r\n~2\r\n,1.5\r\n(12345678901234567890\r\n",
     ">3\r\n=8\r\ntxt:some\r\n!5\r\nERR a\r\n*3\r\n_\r\n*-1\r\n$-1\r\n",
+    "*3\r\n$9\r\ncountkeys\r\n$1\r\na\r\n$1\r\nb\r\n",
 };
 #define MESSAGES (sizeof messages / sizeof *messages)
+
+/* Names of a module's commands. */
+#define NAMES "multi keys sum COUNTKEYS\nmulti pairs ok OBJECT PUT\n"
 
 /* Memory in regions, behind each of which a page may not be touched. */
 typedef struct pool {
@@ -100,6 +106,8 @@ static uint64_t some_calls(pool *of, uint64_t seed, int times) {
         uint8_t *bytes = some_message(of, 0, &seed, &len);
         uint8_t *others = some_message(of, 1, &seed, &other_len);
         uint8_t *out = of->end[2] - out_len;
+        const uint8_t *names = next(&seed) % 4 ? NULL : (const uint8_t *)NAMES;
+        size_t names_len = names ? most(&seed, strlen(NAMES)) : 0;
         slotroute_told told = {0};
         slotroute_routed routed = {0};
         slotroute_redirected redirected = {0};
@@ -109,7 +117,7 @@ static uint64_t some_calls(pool *of, uint64_t seed, int times) {
         case 0: answer = slotroute_slot(bytes, len); break;
         case 1: answer = slotroute_request_len(bytes, len, &told); break;
         case 2: answer = slotroute_reply_len(bytes, len, &told); break;
-        case 3: answer = slotroute_route(bytes, len, next(&seed) % 2, &routed, &told); break;
+        case 3: answer = slotroute_route(bytes, len, names, names_len, next(&seed) % 2, &routed, &told); break;
         case 4: {
             slots_len = most(&seed, 4);
             ends_len = most(&seed, 4);
@@ -117,11 +125,14 @@ static uint64_t some_calls(pool *of, uint64_t seed, int times) {
             size_t *ends = (size_t *)(void *)of->end[4] - ends_len;
             memset(slots, 0xA5, 2 * slots_len);
             memset(ends, 0xA5, sizeof *ends * ends_len);
-            answer = slotroute_split(bytes, len, slots, slots_len, ends, ends_len, out, out_len, &told);
+            answer = slotroute_split(bytes, len, names, names_len, slots, slots_len, ends, ends_len, out,
+                                     out_len, &told);
             sum = mixed(mixed(sum, slots, 2 * slots_len), ends, sizeof *ends * ends_len);
             break;
         }
-        case 5: answer = slotroute_combine(bytes, len, others, other_len, out, out_len, &told); break;
+        case 5:
+            answer = slotroute_combine(bytes, len, names, names_len, others, other_len, out, out_len, &told);
+            break;
         case 6: {
             slots_len = next(&seed) % 2 ? SLOTROUTE_SLOTS : most(&seed, 8);
             uint16_t *numbers = (uint16_t *)(void *)of->end[3] - slots_len;
@@ -131,7 +142,7 @@ static uint64_t some_calls(pool *of, uint64_t seed, int times) {
             break;
         }
         case 7: answer = slotroute_redirect(bytes, len, others, other_len, out, out_len, &redirected); break;
-        case 8: answer = (uint32_t)slotroute_message(next(&seed) % 20, out, out_len); break;
+        case 8: answer = (uint32_t)slotroute_message(next(&seed) % 21, out, out_len); break;
         case 9: {
             size_t nodes_len = most(&seed, 4), numbers_len = SLOTROUTE_SLOTS - next(&seed) % 2 * 8192;
             slots_len = most(&seed, 4);
@@ -140,14 +151,14 @@ static uint64_t some_calls(pool *of, uint64_t seed, int times) {
             size_t *counts = (size_t *)(void *)of->end[4] - slots_len, *ends = counts - ends_len;
             memset(nodes, 0xA5, 2 * nodes_len);
             memset(ends, 0xA5, sizeof *ends * (ends_len + slots_len));
-            answer = slotroute_split_pipeline(bytes, len, halves, numbers_len, nodes, nodes_len, counts,
-                                              slots_len, ends, ends_len, out, out_len, &told);
+            answer = slotroute_split_pipeline(bytes, len, names, names_len, halves, numbers_len, nodes, nodes_len,
+                                              counts, slots_len, ends, ends_len, out, out_len, &told);
             sum = mixed(mixed(sum, nodes, 2 * nodes_len), ends, sizeof *ends * (ends_len + slots_len));
             break;
         }
         case 10:
-            answer = slotroute_combine_pipeline(bytes, len, halves, SLOTROUTE_SLOTS, others, other_len, out,
-                                                out_len, &told);
+            answer = slotroute_combine_pipeline(bytes, len, names, names_len, halves, SLOTROUTE_SLOTS, others,
+                                                other_len, out, out_len, &told);
             break;
         case 11: {
             uint32_t policy = next(&seed) % 12;
@@ -244,8 +255,8 @@ static int is_no_batch(size_t nodes_len, size_t counts_len, size_t ends_len, siz
     memset(counts, 0xA5, sizeof counts);
     memset(ends, 0xA5, sizeof ends);
     memset(out, 0xA5, sizeof out);
-    uint32_t answer = slotroute_split_pipeline(BYTES(PIPELINE), halves, SLOTROUTE_SLOTS, nodes, nodes_len,
-                                               counts, counts_len, ends, ends_len, out, bytes, &told);
+    uint32_t answer = slotroute_split_pipeline(BYTES(PIPELINE), NULL, 0, halves, SLOTROUTE_SLOTS, nodes,
+                                               nodes_len, counts, counts_len, ends, ends_len, out, bytes, &told);
     return answer == SLOTROUTE_TOO_SMALL && told.parts == 2 && told.bytes == 69
         && is_untouched(nodes, sizeof nodes) && is_untouched(counts, sizeof counts)
         && is_untouched(ends, sizeof ends) && is_untouched(out, sizeof out);
@@ -260,7 +271,7 @@ static int is_refused(size_t parts, size_t ends_len, size_t bytes) {
     memset(slots, 0xA5, sizeof slots);
     memset(ends, 0xA5, sizeof ends);
     memset(out, 0xA5, sizeof out);
-    uint32_t answer = slotroute_split(BYTES(messages[0]), slots, parts, ends, ends_len, out, bytes, &told);
+    uint32_t answer = slotroute_split(BYTES(messages[0]), NULL, 0, slots, parts, ends, ends_len, out, bytes, &told);
     return answer == SLOTROUTE_TOO_SMALL && told.parts == 2 && told.bytes == 58
         && is_untouched(slots, sizeof slots) && is_untouched(ends, sizeof ends)
         && is_untouched(out, sizeof out);
@@ -274,7 +285,7 @@ static int small(void) {
     memset(out, 0xA5, sizeof out);
     memset(numbers, 0xA5, sizeof numbers);
     if (!is_refused(1, 2, 58) || !is_refused(2, 1, 58) || !is_refused(2, 2, 57)) return 1;
-    if (slotroute_combine(BYTES(messages[0]), BYTES(":1\r\n:2\r\n"), out, 3, &told) != SLOTROUTE_TOO_SMALL
+    if (slotroute_combine(BYTES(messages[0]), NULL, 0, BYTES(":1\r\n:2\r\n"), out, 3, &told) != SLOTROUTE_TOO_SMALL
         || told.bytes != 4 || !is_untouched(out, sizeof out))
         return 2;
     if (slotroute_table(BYTES(messages[9]), BYTES("n2"), 0, 0, numbers, SLOTROUTE_SLOTS, out, 15, &told)
@@ -288,7 +299,7 @@ static int small(void) {
     if (!is_no_batch(1, 2, 2, 69) || !is_no_batch(2, 1, 2, 69) || !is_no_batch(2, 2, 1, 69)
         || !is_no_batch(2, 2, 2, 68))
         return 6;
-    if (slotroute_combine_pipeline(BYTES(PIPELINE), halves, SLOTROUTE_SLOTS,
+    if (slotroute_combine_pipeline(BYTES(PIPELINE), NULL, 0, halves, SLOTROUTE_SLOTS,
                                    BYTES("+OK\r\n*1\r\n$1\r\n1\r\n*1\r\n$-1\r\n"), out, 20, &told)
             != SLOTROUTE_TOO_SMALL
         || told.bytes != 21 || !is_untouched(out, sizeof out))
@@ -351,7 +362,7 @@ static int is_reply_fault(const char *text, uint32_t wanted) {
 static int is_routed(const char *request, uint32_t slot, uint32_t addr) {
     slotroute_told told = told_before();
     slotroute_routed routed = {0};
-    return slotroute_route(BYTES(request), 1, &routed, &told) == SLOTROUTE_DONE
+    return slotroute_route(BYTES(request), NULL, 0, 1, &routed, &told) == SLOTROUTE_DONE
         && is_told(told, NULL, NULL, NULL, NULL) && routed.kind == SLOTROUTE_TO_SLOT && routed.slot == slot
         && routed.addr == addr;
 }
@@ -365,13 +376,13 @@ static int exact(void) {
     memset(slots, 0xA5, sizeof slots);
     memset(ends, 0xA5, sizeof ends);
     memset(out, 0xA5, sizeof out);
-    if (slotroute_split(BYTES(messages[0]), slots, 4, ends, 4, out, sizeof out, &told) != SLOTROUTE_DONE
+    if (slotroute_split(BYTES(messages[0]), NULL, 0, slots, 4, ends, 4, out, sizeof out, &told) != SLOTROUTE_DONE
         || !is_told(told, &parts, &bytes, NULL, NULL) || !is_untouched(slots + 2, 2 * sizeof *slots)
         || !is_untouched(ends + 2, 2 * sizeof *ends) || !is_untouched(out + 58, sizeof out - 58))
         return 1;
     told = told_before();
     memset(out, 0xA5, sizeof out);
-    if (slotroute_combine(BYTES(messages[0]), BYTES(":1\r\n:2\r\n"), out, sizeof out, &told) != SLOTROUTE_DONE
+    if (slotroute_combine(BYTES(messages[0]), NULL, 0, BYTES(":1\r\n:2\r\n"), out, sizeof out, &told) != SLOTROUTE_DONE
         || !is_told(told, NULL, &whole, NULL, NULL) || !is_untouched(out + 4, sizeof out - 4))
         return 2;
     if (!is_framed(messages[0], strlen(messages[0])) || !is_framed("$3\r\nabc\r\n", 9)) return 3;
@@ -384,6 +395,107 @@ static int exact(void) {
     if (!is_routed("*2\r\n$3\r\nGET\r\n$3\r\nfoo\r\n", 12182, SLOTROUTE_REPLICA_OPTIONAL)
         || !is_routed("*3\r\n$7\r\nCLUSTER\r\n$8\r\nADDSLOTS\r\n$1\r\n5\r\n", 5, SLOTROUTE_PRIMARY))
         return 6;
+    return 0;
+}
+
+/* Each argument that may be empty is a null pointer. */
+static int null(void) {
+    slotroute_told told = {0};
+    slotroute_routed routed = {0};
+    slotroute_redirected redirected = {0};
+    uint8_t none[1];
+    if (slotroute_slot(NULL, 0) != slotroute_slot(none, 0) || slotroute_message(1, NULL, 0) != 13
+        || slotroute_request_len(NULL, 0, &told) != SLOTROUTE_REQUEST_INCOMPLETE
+        || slotroute_reply_len(NULL, 0, &told) != SLOTROUTE_REPLY_INCOMPLETE
+        || slotroute_route(NULL, 0, NULL, 0, 0, &routed, &told) != SLOTROUTE_REQUEST_INCOMPLETE)
+        return 1;
+    if (slotroute_split(NULL, 0, NULL, 0, NULL, 0, NULL, 0, NULL, 0, &told) != SLOTROUTE_REQUEST_INCOMPLETE
+        || slotroute_split(BYTES(messages[0]), NULL, 0, NULL, 0, NULL, 0, NULL, 0, &told) != SLOTROUTE_TOO_SMALL
+        || slotroute_combine(BYTES(messages[0]), NULL, 0, NULL, 0, NULL, 0, &told) != SLOTROUTE_REPLY_INCOMPLETE
+        || slotroute_combine(BYTES(messages[0]), NULL, 0, BYTES(messages[5]), NULL, 0, &told)
+               != SLOTROUTE_TOO_SMALL
+        || slotroute_combine_answers(SLOTROUTE_SUM, 1, NULL, 0, NULL, 0, &told) != SLOTROUTE_REPLY_INCOMPLETE)
+        return 2;
+    if (slotroute_split_pipeline(NULL, 0, NULL, 0, NULL, 0, NULL, 0, NULL, 0, NULL, 0, NULL, 0, &told)
+            != SLOTROUTE_DONE
+        || slotroute_split_pipeline(BYTES(PIPELINE), NULL, 0, NULL, 0, NULL, 0, NULL, 0, NULL, 0, NULL, 0, &told)
+               != SLOTROUTE_NOT_COVERED
+        || slotroute_combine_pipeline(NULL, 0, NULL, 0, NULL, 0, NULL, 0, NULL, 0, &told) != SLOTROUTE_DONE)
+        return 3;
+    if (slotroute_table(NULL, 0, NULL, 0, 0, 0, NULL, 0, NULL, 0, &told) != SLOTROUTE_REPLY_INCOMPLETE
+        || slotroute_table(BYTES(messages[9]), NULL, 0, 0, 0, NULL, 0, NULL, 0, &told) != SLOTROUTE_TOO_SMALL
+        || slotroute_redirect(NULL, 0, NULL, 0, NULL, 0, &redirected) != SLOTROUTE_NO_REDIRECT
+        || slotroute_redirect(BYTES(messages[10]), NULL, 0, NULL, 0, &redirected) != SLOTROUTE_TOO_SMALL)
+        return 4;
+    return 0;
+}
+
+#define KEYS 65
+#define STACK (64 * PAGE)
+
+static char many[KEYS * 32], deep[KEYS * 256];
+
+/* MGET of many keys, and replies to its parts with arrays as deep as may be. */
+static void make_deep(void) {
+    char *end = many + sprintf(many, "*%d\r\n$4\r\nMGET\r\n", KEYS + 1);
+    for (int key = 0; key < KEYS; key++) end += sprintf(end, "$5\r\nk%04d\r\n", key);
+    end = deep;
+    for (int key = 0; key < KEYS; key++) {
+        for (int level = 0; level < 32; level++) end += sprintf(end, "*1\r\n");
+        end += sprintf(end, ":1\r\n");
+    }
+}
+
+static void *no_call(void *answer) { return answer; }
+
+static void *split_call(void *answer) {
+    static uint16_t slots[KEYS];
+    static size_t ends[KEYS];
+    static uint8_t out[KEYS * 64];
+    slotroute_told told = {0};
+    *(uint32_t *)answer = slotroute_split(BYTES(many), NULL, 0, slots, KEYS, ends, KEYS, out, sizeof out, &told);
+    return answer;
+}
+
+static void *combine_call(void *answer) {
+    static uint8_t out[sizeof deep];
+    slotroute_told told = {0};
+    *(uint32_t *)answer = slotroute_combine(BYTES(many), NULL, 0, BYTES(deep), out, sizeof out, &told);
+    return answer;
+}
+
+static void *pipeline_call(void *answer) {
+    static uint8_t out[sizeof deep];
+    slotroute_told told = {0};
+    *(uint32_t *)answer = slotroute_combine_pipeline(BYTES(many), NULL, 0, halves, SLOTROUTE_SLOTS, BYTES(deep),
+                                                     out, sizeof out, &told);
+    return answer;
+}
+
+/* How much of its stack a thread takes. */
+static size_t taken(void *(*call)(void *)) {
+    uint8_t *stack = mmap(NULL, STACK, PROT_READ | PROT_WRITE, MAP_PRIVATE | MAP_ANONYMOUS, -1, 0);
+    pthread_attr_t in_room;
+    pthread_t id;
+    uint32_t answer = 0;
+    size_t free_bytes = 0;
+    if (stack == MAP_FAILED) exit(3);
+    memset(stack, 0xA5, STACK);
+    if (pthread_attr_init(&in_room) != 0 || pthread_attr_setstack(&in_room, stack, STACK) != 0
+        || pthread_create(&id, &in_room, call, &answer) != 0 || pthread_join(id, NULL) != 0
+        || answer != SLOTROUTE_DONE)
+        exit(3);
+    while (free_bytes < STACK && stack[free_bytes] == 0xA5) free_bytes++;
+    munmap(stack, STACK);
+    return STACK - free_bytes;
+}
+
+static int stack(void) {
+    make_deep();
+    size_t none = taken(no_call);
+    if (taken(split_call) > none + 8192) return 1;
+    if (taken(combine_call) > none + 16384) return 2;
+    if (taken(pipeline_call) > none + 16384) return 3;
     return 0;
 }
 
@@ -400,14 +512,14 @@ static int once(int call) {
     case 1: /* redis_batch_bytes::combine_answers resp::read */
         answer = slotroute_combine_answers(SLOTROUTE_MAPS, 2, BYTES(messages[14]), out, sizeof out, &told);
         break;
-    case 2: /* resp::read_request */
-        answer = slotroute_route(BYTES(messages[2]), 1, &routed, &told);
+    case 2: /* resp::read_request redis_bytes::registry_in redis_bytes::fields_in redis_bytes::register_line */
+        answer = slotroute_route(BYTES(messages[2]), BYTES(NAMES), 1, &routed, &told);
         break;
     case 3: /* redis_bytes::split resp::push_command */
-        answer = slotroute_split(BYTES(messages[1]), slots, 8, ends, 8, out, sizeof out, &told);
+        answer = slotroute_split(BYTES(messages[1]), NULL, 0, slots, 8, ends, 8, out, sizeof out, &told);
         break;
     case 4: /* redis_bytes::combine resp::write */
-        answer = slotroute_combine(BYTES(messages[2]), BYTES(messages[7]), out, sizeof out, &told);
+        answer = slotroute_combine(BYTES(messages[2]), NULL, 0, BYTES(messages[7]), out, sizeof out, &told);
         break;
     case 5: /* redis_bytes::slot_table redis_bytes::slot_map */
         answer = slotroute_table(BYTES(messages[9]), BYTES("n2"), 2, 0, slots, SLOTROUTE_SLOTS, out,
@@ -419,11 +531,11 @@ static int once(int call) {
         break;
     case 7: /* redis_batch_bytes::split_pipeline redis_batches::tasks_of redis_batches::slots_of
                redis_batches::PipelinePlan::of_tasks */
-        answer = slotroute_split_pipeline(BYTES(PIPELINE), halves, SLOTROUTE_SLOTS, slots, 8, counts, 8, ends,
-                                          8, out, sizeof out, &told);
+        answer = slotroute_split_pipeline(BYTES(PIPELINE), NULL, 0, halves, SLOTROUTE_SLOTS, slots, 8, counts,
+                                          8, ends, 8, out, sizeof out, &told);
         break;
     case 8: /* redis_batch_bytes::combine_pipeline */
-        answer = slotroute_combine_pipeline(BYTES(PIPELINE), halves, SLOTROUTE_SLOTS,
+        answer = slotroute_combine_pipeline(BYTES(PIPELINE), NULL, 0, halves, SLOTROUTE_SLOTS,
                                             BYTES("-ERR no\r\n*1\r\n$1\r\n1\r\n*1\r\n$-1\r\n"), out,
                                             sizeof out, &told);
         break;
@@ -443,6 +555,8 @@ int main(int count, char **words) {
     if (count == 2 && strcmp(words[1], "small") == 0) return small();
     if (count == 2 && strcmp(words[1], "exact") == 0) return exact();
     if (count == 2 && strcmp(words[1], "threads") == 0) return threads();
+    if (count == 2 && strcmp(words[1], "null") == 0) return null();
+    if (count == 2 && strcmp(words[1], "stack") == 0) return stack();
     if (count == 3 && strcmp(words[1], "once") == 0) return once(atoi(words[2]));
     return 2;
 }

@@ -4,9 +4,9 @@ use slotroute::{Refused, combine, split};
 
 fn main() -> Result<(), Refused> {
     let request = b"*4\r\n$3\r\nDEL\r\n$3\r\nfoo\r\n$3\r\nbar\r\n$8\r\n{bar}vaz\r\n";
-    for (slot, part) in split(request)?.iter() {
+    for (slot, part) in split(request, b"")?.iter() {
         print!("slot {slot}: {} bytes\n{}", part.len(), String::from_utf8_lossy(part));
     }
-    print!("reply: {}", String::from_utf8_lossy(&combine(request, b":1\r\n:2\r\n")?));
+    print!("reply: {}", String::from_utf8_lossy(&combine(request, b"", b":1\r\n:2\r\n")?));
     Ok(())
 }

@@ -52,15 +52,17 @@ unsafe extern "C" {
     pub(crate) fn slotroute_reply_len(bytes: *const u8, bytes_len: usize, told: *mut Told) -> u32;
     pub(crate) fn slotroute_scan(bytes: *const u8, bytes_len: usize, progress: *mut Progress) -> u32;
     pub(crate) fn slotroute_route(
-        request: *const u8, request_len: usize, only_reads: u32, routed: *mut Routed, told: *mut Told,
+        request: *const u8, request_len: usize, names: *const u8, names_len: usize, only_reads: u32,
+        routed: *mut Routed, told: *mut Told,
     ) -> u32;
     pub(crate) fn slotroute_split(
-        request: *const u8, request_len: usize, slots: *mut u16, slots_len: usize,
-        ends: *mut usize, ends_len: usize, out: *mut u8, out_len: usize, told: *mut Told,
+        request: *const u8, request_len: usize, names: *const u8, names_len: usize,
+        slots: *mut u16, slots_len: usize, ends: *mut usize, ends_len: usize,
+        out: *mut u8, out_len: usize, told: *mut Told,
     ) -> u32;
     pub(crate) fn slotroute_combine(
-        request: *const u8, request_len: usize, replies: *const u8, replies_len: usize,
-        out: *mut u8, out_len: usize, told: *mut Told,
+        request: *const u8, request_len: usize, names: *const u8, names_len: usize,
+        replies: *const u8, replies_len: usize, out: *mut u8, out_len: usize, told: *mut Told,
     ) -> u32;
     pub(crate) fn slotroute_combine_answers(
         policy: u32, count: usize, replies: *const u8, replies_len: usize,
@@ -72,12 +74,14 @@ unsafe extern "C" {
         nodes: *mut u8, nodes_len: usize, told: *mut Told,
     ) -> u32;
     pub(crate) fn slotroute_split_pipeline(
-        requests: *const u8, requests_len: usize, numbers: *const u16, numbers_len: usize,
+        requests: *const u8, requests_len: usize, names: *const u8, names_len: usize,
+        numbers: *const u16, numbers_len: usize,
         nodes: *mut u16, nodes_len: usize, counts: *mut usize, counts_len: usize,
         ends: *mut usize, ends_len: usize, out: *mut u8, out_len: usize, told: *mut Told,
     ) -> u32;
     pub(crate) fn slotroute_combine_pipeline(
-        requests: *const u8, requests_len: usize, numbers: *const u16, numbers_len: usize,
+        requests: *const u8, requests_len: usize, names: *const u8, names_len: usize,
+        numbers: *const u16, numbers_len: usize,
         replies: *const u8, replies_len: usize, out: *mut u8, out_len: usize, told: *mut Told,
     ) -> u32;
     pub(crate) fn slotroute_redirect(

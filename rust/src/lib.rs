@@ -5,12 +5,15 @@
 //! use slotroute::{combine, slot, split};
 //!
 //! let request = b"*3\r\n$4\r\nMGET\r\n$3\r\nfoo\r\n$3\r\nbar\r\n";
-//! let parts = split(request)?;
+//! let parts = split(request, b"")?;
 //! assert_eq!(parts.iter().map(|(slot, _)| slot).collect::<Vec<_>>(), [slot(b"foo"), slot(b"bar")]);
-//! let reply = combine(request, b"*1\r\n$1\r\n1\r\n*1\r\n$1\r\n2\r\n")?;
+//! let reply = combine(request, b"", b"*1\r\n$1\r\n1\r\n*1\r\n$1\r\n2\r\n")?;
 //! assert_eq!(reply, b"*2\r\n$1\r\n1\r\n$1\r\n2\r\n");
 //! # Ok::<(), slotroute::Refused>(())
 //! ```
+//!
+//! `names` is a text of lines that register a module's commands, as `multi keys sum COUNTKEYS`, or it
+//! is empty. The header says what a line has.
 
 mod ffi;
 
@@ -96,11 +99,19 @@ fn len_unless(incomplete: u32, code: u32, told: Told) -> Result<Option<usize>, R
 }
 
 /// Where a request goes. With `only_reads`, a replica may serve it.
-pub fn route(request: &[u8], only_reads: bool) -> Result<Routed, Refused> {
+pub fn route(request: &[u8], names: &[u8], only_reads: bool) -> Result<Routed, Refused> {
     let (mut routed, mut told) = (Routed::default(), Told::default());
     // SAFETY: as in `slot`.
     let code = unsafe {
-        ffi::slotroute_route(request.as_ptr(), request.len(), only_reads.into(), &mut routed, &mut told)
+        ffi::slotroute_route(
+            request.as_ptr(),
+            request.len(),
+            names.as_ptr(),
+            names.len(),
+            only_reads.into(),
+            &mut routed,
+            &mut told,
+        )
     };
     if code == DONE { Ok(routed) } else { Err(Refused { code, told }) }
 }
@@ -149,7 +160,7 @@ impl Parts {
 }
 
 /// Splits a request by slot.
-pub fn split(request: &[u8]) -> Result<Parts, Refused> {
+pub fn split(request: &[u8], names: &[u8]) -> Result<Parts, Refused> {
     let mut parts = Parts::default();
     let room = Told { parts: 16, bytes: 2 * request.len() + 64, ..Told::default() };
     let told = with_room(room, |told| {
@@ -162,6 +173,8 @@ pub fn split(request: &[u8]) -> Result<Parts, Refused> {
             ffi::slotroute_split(
                 request.as_ptr(),
                 request.len(),
+                names.as_ptr(),
+                names.len(),
                 slots.as_mut_ptr(),
                 slots.len(),
                 ends.as_mut_ptr(),
@@ -179,13 +192,15 @@ pub fn split(request: &[u8]) -> Result<Parts, Refused> {
 }
 
 /// The one reply to a request, by the replies to its parts, in the order of the parts.
-pub fn combine(request: &[u8], replies: &[u8]) -> Result<Vec<u8>, Refused> {
+pub fn combine(request: &[u8], names: &[u8], replies: &[u8]) -> Result<Vec<u8>, Refused> {
     written(replies.len() + 64, |out, told| {
         // SAFETY: as in `slot`.
         unsafe {
             ffi::slotroute_combine(
                 request.as_ptr(),
                 request.len(),
+                names.as_ptr(),
+                names.len(),
                 replies.as_ptr(),
                 replies.len(),
                 out.as_mut_ptr(),
@@ -265,7 +280,7 @@ impl Batches {
 }
 
 /// Splits requests, one after the other, into one batch for each node of a table's numbers.
-pub fn split_pipeline(requests: &[u8], numbers: &[u16]) -> Result<Batches, Refused> {
+pub fn split_pipeline(requests: &[u8], names: &[u8], numbers: &[u16]) -> Result<Batches, Refused> {
     let mut batches = Batches::default();
     let room = Told { parts: 16, bytes: 2 * requests.len() + 64, ..Told::default() };
     let told = with_room(room, |told| {
@@ -279,6 +294,8 @@ pub fn split_pipeline(requests: &[u8], numbers: &[u16]) -> Result<Batches, Refus
             ffi::slotroute_split_pipeline(
                 requests.as_ptr(),
                 requests.len(),
+                names.as_ptr(),
+                names.len(),
                 numbers.as_ptr(),
                 numbers.len(),
                 nodes.as_mut_ptr(),
@@ -301,13 +318,20 @@ pub fn split_pipeline(requests: &[u8], numbers: &[u16]) -> Result<Batches, Refus
 }
 
 /// The replies to the requests of a pipeline, by the replies to its batches, batch after batch.
-pub fn combine_pipeline(requests: &[u8], numbers: &[u16], replies: &[u8]) -> Result<Vec<u8>, Refused> {
+pub fn combine_pipeline(
+    requests: &[u8],
+    names: &[u8],
+    numbers: &[u16],
+    replies: &[u8],
+) -> Result<Vec<u8>, Refused> {
     written(replies.len() + 64, |out, told| {
         // SAFETY: as in `slot`.
         unsafe {
             ffi::slotroute_combine_pipeline(
                 requests.as_ptr(),
                 requests.len(),
+                names.as_ptr(),
+                names.len(),
                 numbers.as_ptr(),
                 numbers.len(),
                 replies.as_ptr(),
@@ -376,9 +400,9 @@ mod tests {
         assert!((0..12).all(|len| scan(&message[..len], &mut progress) == Ok(None)));
         assert_eq!(scan(message, &mut progress), Ok(Some(12)));
         assert_eq!(scan(b"?", &mut Progress::default()).map_err(|refused| refused.code), Err(8));
-        let routed = route(b"*2\r\n$3\r\nGET\r\n$3\r\nfoo\r\n", true);
+        let routed = route(b"*2\r\n$3\r\nGET\r\n$3\r\nfoo\r\n", b"", true);
         assert_eq!(routed, Ok(Routed { kind: 3, slot: 12182, addr: 1, policy: 0 }));
-        let error = split(b"*2\r\n$3\r\nGET\r\n$3\r\nfoo\r\n").unwrap_err();
+        let error = split(b"*2\r\n$3\r\nGET\r\n$3\r\nfoo\r\n", b"").unwrap_err();
         assert!(!error.to_string().is_empty());
     }
 
@@ -387,13 +411,13 @@ mod tests {
         let reply = b"*2\r\n*3\r\n:0\r\n:8191\r\n*2\r\n$1\r\na\r\n:1\r\n*3\r\n:8192\r\n:16383\r\n*2\r\n$1\r\nb\r\n:2\r\n";
         let table = table(reply, "c", 0, 0).unwrap();
         assert_eq!(table.nodes, ["a:1", "b:2"]);
-        let batches = split_pipeline(PIPELINE, &table.numbers).unwrap();
+        let batches = split_pipeline(PIPELINE, b"", &table.numbers).unwrap();
         assert_eq!(
             batches.iter().map(|(node, count, _)| (node, count)).collect::<Vec<_>>(),
             [(1, 2), (0, 2)]
         );
         let replies = b"+OK\r\n*1\r\n$1\r\n1\r\n+OK\r\n*1\r\n$1\r\n2\r\n";
-        let combined = combine_pipeline(PIPELINE, &table.numbers, replies).unwrap();
+        let combined = combine_pipeline(PIPELINE, b"", &table.numbers, replies).unwrap();
         assert_eq!(combined, b"+OK\r\n+OK\r\n*2\r\n$1\r\n2\r\n$1\r\n1\r\n");
         assert_eq!(combine_answers(7, 2, b":3\r\n:4\r\n").unwrap(), b":7\r\n");
     }
@@ -402,12 +426,22 @@ mod tests {
     fn many_parts_need_more_room() {
         let mut request = b"*41\r\n$3\r\nDEL\r\n".to_vec();
         (0..40).for_each(|key| request.extend_from_slice(format!("$3\r\n{key:03}\r\n").as_bytes()));
-        let parts = split(&request).unwrap();
+        let parts = split(&request, b"").unwrap();
         assert_eq!(
             parts.iter().map(|(_, part)| request_len(part).unwrap()).filter(|len| len.is_some()).count(),
             40
         );
-        assert_eq!(combine(&request, &b":1\r\n".repeat(40)).unwrap(), b":40\r\n");
+        assert_eq!(combine(&request, b"", &b":1\r\n".repeat(40)).unwrap(), b":40\r\n");
+    }
+
+    #[test]
+    fn names_of_a_module() {
+        let request = b"*3\r\n$9\r\nCOUNTKEYS\r\n$3\r\nfoo\r\n$3\r\nbar\r\n";
+        let names = b"multi keys sum COUNTKEYS\n";
+        assert_eq!(split(request, names).unwrap().iter().count(), 2);
+        assert_eq!(combine(request, names, b":1\r\n:2\r\n").unwrap(), b":3\r\n");
+        let error = split(request, b"\nmulti keys sum MGET\n").unwrap_err();
+        assert_eq!((error.code, error.told.at), (19, 0));
     }
 
     #[test]

@@ -5,3 +5,5 @@ pub mod Splits
 pub mod Numbers
 pub mod Untabled
 pub mod Printed
+pub mod NameLines
+pub mod PartArguments

@@ -102,6 +102,7 @@ unread count number bytes rest replies (faults.AfterReplies n) so_far long few n
 unread count number bytes rest replies (faults.Unfit kind) so_far long few next = absurd next
 unread count number bytes rest replies faults.NoForm so_far long few next = absurd next
 unread count number bytes rest replies faults.LineFeedInHost so_far long few next = absurd next
+unread count number bytes rest replies (faults.BadName _) so_far long few next = absurd next
 
 -- where the first of the bytes that are left stands
 pub left_at : (bytes rest : List ℕ) (replies : List Reply) (so_far : Stand bytes rest replies) → length bytes ≡ length so_far.front + length rest

@@ -2,3 +2,4 @@ pub mod Requests
 pub mod Replies
 pub mod Table
 pub mod Texts
+pub mod NameLines

@@ -1,4 +1,4 @@
-ghost use Rattle.std.specs.Prelude.{◌≡◌, ◌⊎◌, List, Ok, IfOk, IfErr, MatchResult};
+ghost use Rattle.std.specs.Prelude.{◌≡◌, ◌≢◌, ◌⊎◌, List, Ok, IfOk, IfErr, MatchResult};
 ghost use Rattle.resp.specs.Forms.{form};
 ghost use Rattle.resp_core.specs.Reply.{Reply};
 ghost use Rattle.resp_core.specs.View.{view};
@@ -95,9 +95,9 @@ fn written(alloc: Global, one: &Value) -> Result<Vec<u8>, BytesFault>
 
 /// The fault of replies that are not joined.
 fn unfit(error: &RedisError) -> BytesFault
-    ensures memory { error.now.kind ≡ ErrorKind.OutOfMemory → result ≡ BytesFault.Memory }
-    ensures other { (error.now.kind ≡ ErrorKind.OutOfMemory → ⊥)
-        → result ≡ BytesFault.Unfit error.now.kind }
+    ensures { ((error.now.kind ≡ ErrorKind.OutOfMemory) × (result ≡ BytesFault.Memory))
+        ⊎ ((error.now.kind ≢ ErrorKind.OutOfMemory)
+        × (result ≡ BytesFault.Unfit error.now.kind)) }
 {
     match error.kind() {
         ErrorKind::OutOfMemory => BytesFault::Memory,

@@ -31,6 +31,8 @@ pub enum BytesFault {
     NoForm,
     /// A host has a line feed, so a line of a table cannot hold it.
     LineFeedInHost,
+    /// The line of this number registers no name.
+    BadName(usize),
 }
 
 impl fmt::Display for BytesFault {
@@ -48,6 +50,7 @@ impl fmt::Display for BytesFault {
             BytesFault::Unfit(_) => write!(f, "the replies make no one reply"),
             BytesFault::NoForm => write!(f, "the one reply has no form"),
             BytesFault::LineFeedInHost => write!(f, "a host has a line feed"),
+            BytesFault::BadName(number) => write!(f, "line {number} registers no name"),
         }
     }
 }

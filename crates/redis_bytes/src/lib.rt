@@ -3,6 +3,7 @@
 
 mod combining;
 mod fault;
+mod names;
 mod replies;
 mod requests;
 mod routing;
@@ -11,6 +12,7 @@ mod tables;
 
 pub use combining::combine;
 pub use fault::BytesFault;
+pub use names::{fields_in, register_line, registry_in};
 pub use routing::route;
 pub use splitting::{Parts, split};
 pub use tables::{NO_NODE, SLOTS, Table, slot_map, slot_table};

@@ -1,14 +1,20 @@
-ghost use Rattle.std.specs.Prelude.{◌≡◌, map, IfOk, IfErr, MatchResult};
+ghost use Rattle.std.specs.Prelude.{◌≡◌, ◌+◌, ◌≤◌, ◌++◌, [], Some, map, option_copied, IfOk, IfErr, IfSome, OnOk, MatchResult};
+ghost use Rattle.std.specs.List.{flat_map, range_with_len};
+ghost use Rattle.resp.specs.Forms.{bulk_form, request};
+ghost use Rattle.cluster_slots.specs.Lists.{all_some};
+ghost use Rattle.redis_routing.specs.Command.{argument};
+ghost use Rattle.redis_routing.specs.SubCommand.{sub_command_after};
 ghost use Rattle.redis_routing.specs.Names.{names_in};
 ghost use Rattle.redis_routing.specs.RoutingInfo.{route_lists};
 ghost use Rattle.redis_routing.specs.Split.{Split, slots_of, split_part};
-ghost use Rattle.redis_bytes.specs.Requests.{IsSplitRequest, AreParts, AreWritten, IsUnsplit};
+ghost use Rattle.redis_bytes.specs.Requests.{IsSplitRequest, AreParts, AreWritten, IsUnsplit, Words};
 
 use crate::fault::BytesFault;
 use crate::requests::command_in;
 use cluster_slots::Route;
-use redis_routing::{Names, Routable, SplitCommand};
-use resp::push_command;
+use redis_routing::{Names, Routable, SplitCommand, name_words};
+use resp::{push_array_line, push_bulk};
+use resp_core::Cmd;
 use std::alloc::{AllocError, Global};
 
 /// The parts of a request: for each its route, and where its bytes end among those of all parts.
@@ -45,15 +51,22 @@ pub fn split(alloc: Global, request: &[u8], names: Names<'_>) -> Result<Parts, B
     let Some(split) = SplitCommand::new(alloc, &command, names)? else {
         return Err(BytesFault::NotMultiKey);
     };
-    Ok(parts_of(alloc, &split)?)
+    Ok(parts_of(alloc, &split, &command, request.len())?)
 }
 
-/// The parts of a split command.
-fn parts_of<R: Routable>(alloc: Global, split: &SplitCommand<'_, R>) -> Result<Parts, AllocError>
+/// The parts of a split command, which have about so many bytes.
+fn parts_of(
+    alloc: Global,
+    split: &SplitCommand<'_, Cmd>,
+    command: &Cmd,
+    room: usize,
+) -> Result<Parts, AllocError>
+    requires { split.now.arguments ≡ map Some command.now }
     ensures { IfOk result (λ parts. AreParts split.now parts) }
 {
     let routes = routes_in(alloc, split.routes())?;
-    let (ends, bytes) = written(alloc, split)?;
+    let mut bytes = Vec::with_capacity(alloc, room)?;
+    let ends = push_parts(alloc, &mut bytes, split, command)?;
     Ok(Parts {
         routes,
         ends,
@@ -71,20 +84,73 @@ fn routes_in(alloc: Global, routes: &[(Route, Vec<usize>)]) -> Result<Vec<Route>
     Ok(found)
 }
 
-/// The requests of the parts, one after the other, and where each ends.
-fn written<R: Routable>(
+/// Writes the requests of the parts of a command, one after the other, and returns where each ends.
+fn push_parts(
     alloc: Global,
-    split: &SplitCommand<'_, R>,
-) -> Result<(Vec<usize>, Vec<u8>), AllocError>
-    ensures { IfOk result (λ x.
-        AreWritten (map (split_part split.now) (slots_of split.now.routes)) x.0.items x.1.items) }
+    out: &mut Vec<u8>,
+    split: &SplitCommand<'_, Cmd>,
+    command: &Cmd,
+) -> Result<Vec<usize>, AllocError>
+    requires empty { out.old.items ≡ [] }
+    requires command { split.now.arguments ≡ map Some command.now }
+    ensures { IfOk result (λ ends.
+        AreWritten (map (split_part split.now) (slots_of split.now.routes)) ends.items out.new.items) }
 {
+    let words = name_words(command);
     let mut ends = Vec::with_capacity(alloc, split.len())?;
-    let mut bytes = Vec::new(alloc);
-    for number in 0..split.len() {
-        let part = split.part(alloc, number)?;
-        push_command(&mut bytes, &part)?;
-        ends.push(bytes.len())?;
+    for (_, indices) in split.routes() {
+        push_part(out, command, words, indices)?;
+        ends.push(out.len())?;
     }
-    Ok((ends, bytes))
+    Ok(ends)
+}
+
+/// Appends the request of the words of a name and the arguments at these indices after them.
+fn push_part(
+    out: &mut Vec<u8>,
+    command: &Cmd,
+    words: usize,
+    indices: &[usize],
+) -> Result<(), AllocError>
+    requires few { words ≤ 2 }
+    ensures { OnOk result ((part : Words)
+        → sub_command_after words (map Some command.now) indices.now ≡ Some part
+        → out.new.items ≡ out.old.items ++ request part) }
+{
+    push_array_line(out, words + indices.len())?;
+    push_name(out, command, words)?;
+    for index in indices {
+        push_arg(out, arg_after(command, words, *index))?;
+    }
+    Ok(())
+}
+
+/// The argument at this index after the words of the name.
+fn arg_after(command: &Cmd, words: usize, index: usize) -> Option<&[u8]>
+    ensures { option_copied result ≡ argument (map Some command.now) (index + words) }
+{
+    Routable::arg_idx(command, index.saturating_add(words))
+}
+
+/// Appends the words of a command's name.
+fn push_name(out: &mut Vec<u8>, command: &Cmd, words: usize) -> Result<(), AllocError>
+    ensures { OnOk result ((name : Words)
+        → all_some (map (argument (map Some command.now)) (range_with_len 0 words)) ≡ Some name
+        → out.new.items ≡ out.old.items ++ flat_map bulk_form name) }
+{
+    for place in 0..words {
+        push_arg(out, Routable::arg_idx(command, place))?;
+    }
+    Ok(())
+}
+
+/// Appends an argument as a bulk string, if it is there.
+fn push_arg(out: &mut Vec<u8>, arg: Option<&[u8]>) -> Result<(), AllocError>
+    ensures { OnOk result (IfSome (option_copied arg.entry)
+        (λ text. out.new.items ≡ out.old.items ++ bulk_form text)) }
+{
+    if let Some(text) = arg {
+        push_bulk(out, text)?;
+    }
+    Ok(())
 }

@@ -18,4 +18,4 @@ pub use reading::{MAX_LEVELS, read};
 pub use requests::{read_request, request_len};
 pub use response::Response;
 pub use scanning::{Progress, reply_len, scan};
-pub use writing::{push_command, write, write_command};
+pub use writing::{push_array_line, push_bulk, push_command, write, write_command};

@@ -7,7 +7,7 @@
  *
  * What a caller owes, and nothing checks:
  *  - A pointer and its length name memory that may be read (const) or read and written for the
- *    whole call, all of it initialized. A pointer is never null, also if its length is 0.
+ *    whole call, all of it initialized. A pointer may be null if its length is 0.
  *  - What is written overlaps nothing else that is passed.
  *  - malloc, realloc and free are of one allocator, and align a block to each power of two up to 16
  *    that divides its size.
@@ -41,7 +41,7 @@ enum {
     SLOTROUTE_REQUEST_MALFORMED = 4,  /* no request can have the byte at told.at there */
     SLOTROUTE_AFTER_REQUEST = 5,      /* bytes follow the request, which ends at told.at */
     SLOTROUTE_NOT_MULTI_KEY = 6,      /* not a complete DEL, EXISTS, JSON.MGET, JSON.MSET, MGET,
-                                         MSET, TOUCH, UNLINK or WATCH */
+                                         MSET, TOUCH, UNLINK or WATCH, nor of a name in `names` */
     SLOTROUTE_REPLY_INCOMPLETE = 7,   /* the reply of the number told.reply; so in the next three */
     SLOTROUTE_REPLY_MALFORMED = 8,
     SLOTROUTE_REPLY_TOO_DEEP = 9,     /* arrays are nested more than 32 deep */
@@ -54,7 +54,9 @@ enum {
     SLOTROUTE_LINE_FEED_IN_HOST = 16, /* the host of a slot's node has a line feed */
     SLOTROUTE_NOT_ROUTABLE = 17,      /* the request of the number told.request goes to no single
                                          slot and is not split by slot, as PING */
-    SLOTROUTE_NOT_COVERED = 18        /* a slot of that request has no node */
+    SLOTROUTE_NOT_COVERED = 18,       /* a slot of that request has no node */
+    SLOTROUTE_BAD_NAME = 19           /* the line of the number told.at, counted from 0, registers no
+                                         name */
 };
 
 /* Sizes that a call needs, or where a fault is. A call changes only fields that its code names. */
@@ -62,7 +64,7 @@ typedef struct slotroute_told {
     size_t parts; /* how many parts there are */
     size_t bytes; /* how many bytes there are */
     size_t reply; /* the number of a reply, counted from 0 */
-    size_t at;    /* the index of a byte, counted from 0 */
+    size_t at;    /* the index of a byte, or of a line of names, counted from 0 */
     size_t request; /* the number of a request of a pipeline, counted from 0 */
     size_t batch;   /* the number of a batch of a pipeline, counted from 0 */
 } slotroute_told;
@@ -135,16 +137,25 @@ typedef struct slotroute_routed {
     uint32_t policy;
 } slotroute_routed;
 
+/* Five calls take names: a text that registers commands of a module that are split by slot, or
+ * nothing. A line has four fields, with spaces between them: multi PATTERN POLICY NAME. A name of two
+ * words takes two fields. PATTERN says how the arguments make keys: keys, pairs (a key and a value),
+ * last (keys, and one argument for all), triples. POLICY says how the replies make one: ok, sum or
+ * list. So `multi keys sum COUNTKEYS` registers a command that is split as DEL. A name that the
+ * library knows, as MGET, is refused with SLOTROUTE_BAD_NAME. Each call reads the text anew. */
+
 /* Where a request goes. only_reads is not 0 if its command only reads, so that a replica may serve
  * it. A command that names a slot by its number, as CLUSTER ADDSLOTS 5, goes to the primary either
  * way. */
-uint32_t slotroute_route(const uint8_t *request, size_t request_len, uint32_t only_reads,
+uint32_t slotroute_route(const uint8_t *request, size_t request_len,
+                         const uint8_t *names, size_t names_len, uint32_t only_reads,
                          slotroute_routed *routed, slotroute_told *told);
 
 /* Splits a request by slot. Part i goes to slots[i]. Its bytes, a request of its own, are those of
  * out from ends[i - 1], or from 0, up to ends[i]. told->parts is the number of parts, and
  * told->bytes the number of bytes. The parts are in the order of their first keys. */
 uint32_t slotroute_split(const uint8_t *request, size_t request_len,
+                         const uint8_t *names, size_t names_len,
                          uint16_t *slots, size_t slots_len,
                          size_t *ends, size_t ends_len,
                          uint8_t *out, size_t out_len, slotroute_told *told);
@@ -152,6 +163,7 @@ uint32_t slotroute_split(const uint8_t *request, size_t request_len,
 /* Writes the one reply to a request, by the replies to its parts. replies has these in the order of
  * the parts, in whatever order they were sent. told->bytes is the length of the one reply. */
 uint32_t slotroute_combine(const uint8_t *request, size_t request_len,
+                           const uint8_t *names, size_t names_len,
                            const uint8_t *replies, size_t replies_len,
                            uint8_t *out, size_t out_len, slotroute_told *told);
 
@@ -187,6 +199,7 @@ uint32_t slotroute_table(const uint8_t *reply, size_t reply_len,
  * command goes to the slot of its first key, or is one that slotroute_split splits. If a request is at
  * fault, told->request is its number. */
 uint32_t slotroute_split_pipeline(const uint8_t *requests, size_t requests_len,
+                                  const uint8_t *names, size_t names_len,
                                   const uint16_t *numbers, size_t numbers_len,
                                   uint16_t *nodes, size_t nodes_len,
                                   size_t *counts, size_t counts_len,
@@ -194,12 +207,13 @@ uint32_t slotroute_split_pipeline(const uint8_t *requests, size_t requests_len,
                                   uint8_t *out, size_t out_len, slotroute_told *told);
 
 /* Writes the replies to the requests of a pipeline, by the replies to its batches. replies has
- * these batch after batch, in whatever order the batches were sent. numbers has to be as it was for
- * the split. An error is the reply to its command, or to the command whose part it answers.
+ * these batch after batch, in whatever order the batches were sent. names and numbers have to be as
+ * they were for the split. An error is the reply to its command, or to the command whose part it answers.
  * told->bytes is the length of the replies. If a reply is at fault, told->batch is the number of
  * its batch and told->reply its number there. If the reply to a request
  * cannot be written (SLOTROUTE_NO_FORM), told->request is the number of the request. */
 uint32_t slotroute_combine_pipeline(const uint8_t *requests, size_t requests_len,
+                                    const uint8_t *names, size_t names_len,
                                     const uint16_t *numbers, size_t numbers_len,
                                     const uint8_t *replies, size_t replies_len,
                                     uint8_t *out, size_t out_len, slotroute_told *told);

@@ -1,1 +1,2 @@
 mod ReadNames
+pub mod Named

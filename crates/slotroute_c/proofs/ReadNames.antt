@@ -18,6 +18,8 @@ use Rattle.redis_routing.specs.declared.info.RoutingInfo.{RoutingInfo}
 use Rattle.redis_bytes.specs.Requests.{Words}
 use Rattle.redis_bytes.specs.declared.fault.BytesFault.{BytesFault}
 use Rattle.resp.specs.Forms.{IsRequest}
+use Rattle.redis_bytes.specs.NameLines.{AreNamesIn}
+use Rattle.slotroute_c.specs.Named.{WithNames}
 use Rattle.slotroute_c.specs.Routed.{AreNamesFor, names_for}
 
 upper-upper : (text : List ℕ) → upper (upper text) ≡ upper text
@@ -49,16 +51,15 @@ is_put args name old new reads read e put =
 pub no_name : (args : Arguments) (Is : List ℕ → Type 0) → None ≡ command_name args → IfSome (command_name args) Is
 no_name args Is e = rw (sym e) tt
 
-by_name : (n : ℕ) (read : List (List ℕ)) (args : Arguments) (name : Option (List ℕ)) → IfSome name (λ x. is_among read x ≡ (names_for n).only_reads x) → routing_by_name (names_of read []) args name ≡ routing_by_name (names_for n) args name
-by_name n read args None same = refl
-by_name n read args (Some name) same = rw same refl
+by_name : (n : ℕ) (read : List (List ℕ)) (registered : Registrations) (args : Arguments) (name : Option (List ℕ)) → IfSome name (λ x. is_among read x ≡ (names_for n registered).only_reads x) → routing_by_name (names_of read registered) args name ≡ routing_by_name (names_for n registered) args name
+by_name n read registered args None same = refl
+by_name n read registered args (Some name) same = rw same refl
 
-routed_as : (n : ℕ) (read : List (List ℕ)) (args : Arguments) → IfSome (command_name args) (λ x. is_among read x ≡ (names_for n).only_reads x) → routing (names_of read []) args ≡ routing (names_for n) args
-routed_as n read args same = by_name n read args (command_name args) same
+routed_as : (n : ℕ) (read : List (List ℕ)) (registered : Registrations) (args : Arguments) → IfSome (command_name args) (λ x. is_among read x ≡ (names_for n registered).only_reads x) → routing (names_of read registered) args ≡ routing (names_for n registered) args
+routed_as n read registered args same = by_name n read registered args (command_name args) same
 
-pub routed_for : (n : ℕ) (request : List ℕ) (read : List (List ℕ)) (registered : Registrations) → registered ≡ [] → AreNamesFor n request read → (r : Result (Option RoutingInfo) BytesFault) → IfOk r (λ info. (words : Words) × IsRequest words request × (option_map as_routing info ≡ routing (names_of read registered) (map Some words)))
-    → IfOk r (λ info. (words : Words) × IsRequest words request × (option_map as_routing info ≡ routing (names_for n) (map Some words)))
-routed_for n request read registered none names (Err fault) is = tt
-routed_for n request read registered none names (Ok info) is =
-    let args = map Some is.0 in
-    (is.0, is.1, is.2 ∙ ap (λ (by : Registrations). routing (names_of read by) args) none ∙ routed_as n read args (names is.0 is.1))
+module _ (n : ℕ) (names request : List ℕ) (read : List (List ℕ)) (registered : Registrations) (are : AreNamesIn names registered) (reads : AreNamesFor n request read) where
+  pub routed_for : (r : Result (Option RoutingInfo) BytesFault) → IfOk r (λ info. (words : Words) × IsRequest words request × (option_map as_routing info ≡ routing (names_of read registered) (map Some words)))
+      → IfOk r (λ info. (words : Words) × IsRequest words request × WithNames names (λ by. option_map as_routing info ≡ routing (names_for n by) (map Some words)))
+  routed_for (Err fault) is = tt
+  routed_for (Ok info) is = (is.0, is.1, (registered, are, is.2 ∙ routed_as n read registered (map Some is.0) (reads is.0 is.1)))

@@ -5,7 +5,7 @@ use Rattle.resp.specs.declared.fault.RequestFault.TheVariants as request
 use Rattle.redis_bytes.specs.declared.fault.BytesFault.{BytesFault}
 use Rattle.redis_bytes.specs.declared.fault.BytesFault.TheVariants as faults
 use Rattle.slotroute_c.specs.declared.outcomes.Outcome.{Outcome}
-use Rattle.slotroute_c.specs.declared.outcomes.Outcome.TheVariants.{Done, TooSmall, NotText, NoMemory, RequestIncomplete, RequestMalformed, AfterRequest, NotMultiKey, ReplyIsError, AfterReplies, Unfit, NoForm, LineFeedInHost}
+use Rattle.slotroute_c.specs.declared.outcomes.Outcome.TheVariants.{Done, TooSmall, NotText, NoMemory, RequestIncomplete, RequestMalformed, AfterRequest, NotMultiKey, ReplyIsError, AfterReplies, Unfit, NoForm, LineFeedInHost, BadName}
 use Rattle.slotroute_c.specs.declared.told.Told.{Told}
 use Rattle.slotroute_c.specs.Fields.{with_at, with_reply_number}
 use Rattle.slotroute_c.specs.Outcomes.{code, of_reply}
@@ -26,6 +26,7 @@ outcome_of (faults.AfterReplies end) = AfterReplies
 outcome_of (faults.Unfit kind) = Unfit
 outcome_of faults.NoForm = NoForm
 outcome_of faults.LineFeedInHost = LineFeedInHost
+outcome_of (faults.BadName number) = BadName
 
 -- a code other than those of Done, TooSmall and NotText
 abbrev pub IsOther : ℕ → Type 0
@@ -36,11 +37,12 @@ abbrev pub with_request_fault : RequestFault → Told → Told
 with_request_fault request.Incomplete told = told
 with_request_fault (request.Malformed at) told = with_at at told
 
--- a fault is reported by the index of the byte, or by the number of the reply
+-- a fault is reported by the index of the byte or of the line, or by the number of the reply
 abbrev pub with_fault : BytesFault → Told → Told
 with_fault (faults.Request fault) told = with_request_fault fault told
 with_fault (faults.AfterRequest end) told = with_at end told
 with_fault (faults.Reply number fault) told = with_reply_number number told
 with_fault (faults.Error number text) told = with_reply_number number told
 with_fault (faults.AfterReplies end) told = with_at end told
+with_fault (faults.BadName number) told = with_at number told
 with_fault _ told = told

@@ -4,6 +4,7 @@ pub mod Redirected
 pub mod Routed
 pub mod Faults
 pub mod Fields
+pub mod Named
 pub mod Parts
 pub mod Tables
 pub mod Pipelines

@@ -3,7 +3,7 @@ use Rattle.std.specs.Prelude.{◌==◌, ◌||◌, ℕ, Bool, false, List, [], �
 use Rattle.resp.specs.declared.fault.Fault.{Fault}
 use Rattle.resp.specs.declared.fault.Fault.TheVariants.{Incomplete, Malformed, TooDeep}
 use Rattle.slotroute_c.specs.declared.outcomes.Outcome.{Outcome}
-use Rattle.slotroute_c.specs.declared.outcomes.Outcome.TheVariants.{Done, NoMemory, TooSmall, RequestIncomplete, RequestMalformed, AfterRequest, NotMultiKey, ReplyIncomplete, ReplyMalformed, ReplyTooDeep, ReplyIsError, AfterReplies, Unfit, NoForm, NotText, NoRedirect, LineFeedInHost, NotRoutable, NotCovered}
+use Rattle.slotroute_c.specs.declared.outcomes.Outcome.TheVariants.{Done, NoMemory, TooSmall, RequestIncomplete, RequestMalformed, AfterRequest, NotMultiKey, ReplyIncomplete, ReplyMalformed, ReplyTooDeep, ReplyIsError, AfterReplies, Unfit, NoForm, NotText, NoRedirect, LineFeedInHost, NotRoutable, NotCovered, BadName}
 
 abbrev pub code : Outcome → ℕ
 code Done = 0
@@ -25,6 +25,7 @@ code NoRedirect = 15
 code LineFeedInHost = 16
 code NotRoutable = 17
 code NotCovered = 18
+code BadName = 19
 
 abbrev pub text : Outcome → List ℕ
 text Done = codes "done"
@@ -46,6 +47,7 @@ text NoRedirect = codes "the text is no redirect"
 text LineFeedInHost = codes "a host has a line feed"
 text NotRoutable = codes "a command goes to no single slot and is not split by slot"
 text NotCovered = codes "a slot of a command has no node"
+text BadName = codes "a line registers no name"
 
 -- the text of a code
 abbrev pub message : ℕ → List ℕ
@@ -69,7 +71,8 @@ message number =
     else (if number == 16 then text LineFeedInHost
     else (if number == 17 then text NotRoutable
     else (if number == 18 then text NotCovered
-    else codes "no answer of this library"))))))))))))))))))
+    else (if number == 19 then text BadName
+    else codes "no answer of this library")))))))))))))))))))
 
 -- whether a number is the code of one of these outcomes
 abbrev pub is_one_of : ℕ → List Outcome → Bool

@@ -1,5 +1,6 @@
 -- The batches of a pipeline by a table of node numbers, its replies, and what `told` reports.
-use Rattle.std.specs.Prelude.{◌<◌, ◌⊎◌, ℕ, List, [], length}
+use Rattle.std.specs.Prelude.{◌≡◌, ◌<◌, ◌⊎◌, ℕ, List, length}
+use Rattle.redis_routing.specs.Registry.{Registrations}
 use Rattle.redis_batches.specs.PipelinePlan.{PipelineBatches}
 use Rattle.redis_batch_bytes.specs.declared.fault.BatchFault.{BatchFault}
 use Rattle.redis_batch_bytes.specs.declared.fault.BatchFault.TheVariants as faults
@@ -12,13 +13,20 @@ use Rattle.slotroute_c.specs.declared.outcomes.Outcome.TheVariants.{AfterReplies
 use Rattle.slotroute_c.specs.declared.told.Told.{Told}
 use Rattle.slotroute_c.specs.Fields.{with_at, with_batch, with_reply_number, with_request, with_sizes}
 use Rattle.slotroute_c.specs.Faults.{of_request, with_request_fault}
+use Rattle.slotroute_c.specs.Named.{WithNames}
 use Rattle.slotroute_c.specs.Outcomes.{of_reply}
 
--- the bytes are requests, and these are the batches of a plan of their commands, by a table that has
--- the number of each slot's node
-abbrev pub AreBatchesBy : List ℕ → List ℕ → BatchBytes → Type 0
-AreBatchesBy numbers requests batches = (plan : PipelineBatches)
-    × IsPlanOfRequests [] numbers requests plan × AreBatchesOf plan.batches batches
+-- the bytes are requests, and these are the batches of a plan of their commands, by the names that a
+-- text registers and a table that has the number of each slot's node
+abbrev pub AreBatchesBy : (names numbers requests : List ℕ) → BatchBytes → Type 0
+AreBatchesBy names numbers requests batches = (plan : PipelineBatches)
+    × WithNames names (λ registered. IsPlanOfRequests registered numbers requests plan)
+    × AreBatchesOf plan.batches batches
+
+-- why the bytes are not planned: memory ran out, or by the names of a text the fault has its cause
+abbrev pub FailsToPlan : List ℕ → (Registrations → BatchFault → Type 0) → BatchFault → Type 0
+FailsToPlan names Cause fault =
+    (fault ≡ faults.Memory) ⊎ WithNames names (λ registered. Cause registered fault)
 
 -- the number of batches and of bytes is reported
 abbrev pub with_batches : BatchBytes → Told → Told
@@ -32,9 +40,10 @@ IsOneTooSmall batches nodes counts ends out =
     ⊎ (ends < length batches.ends.items) ⊎ (out < length batches.bytes.items)
 
 -- the bytes are the replies to the batches, and by these the replies to the commands are written
-abbrev pub AreCombinedBy : List ℕ → List ℕ → List ℕ → List ℕ → Type 0
-AreCombinedBy numbers requests replies combined = (plan : PipelineBatches)
-    × IsPlanOfRequests [] numbers requests plan × RepliesAreWritten plan replies combined
+abbrev pub AreCombinedBy : (names numbers requests replies combined : List ℕ) → Type 0
+AreCombinedBy names numbers requests replies combined = (plan : PipelineBatches)
+    × WithNames names (λ registered. IsPlanOfRequests registered numbers requests plan)
+    × RepliesAreWritten plan replies combined
 
 -- the outcome of each fault of a pipeline
 abbrev pub outcome_of_batch : BatchFault → Outcome

@@ -1,5 +1,5 @@
 -- A routing as four numbers, which `include/slotroute.h` names.
-use Rattle.std.specs.Prelude.{◌≡◌, ◌<◌, ◌⊎◌, ℕ, zero, suc, List, [], map, nat_lt, IfSome, Option, None, Some}
+use Rattle.std.specs.Prelude.{◌≡◌, ◌<◌, ◌⊎◌, ℕ, zero, suc, List, map, nat_lt, IfSome, Option, None, Some}
 use Rattle.cluster_slots.specs.declared.slot.SlotAddr.{SlotAddr}
 use Rattle.cluster_slots.specs.declared.slot.SlotAddr.TheVariants.{Master, ReplicaOptional, ReplicaRequired}
 use Rattle.cluster_slots.specs.declared.aggregate_op.AggregateOp.TheVariants.{Min, Sum}
@@ -10,6 +10,7 @@ use Rattle.resp.specs.Forms.{IsRequest}
 use Rattle.redis_routing.specs.Command.{command_name}
 use Rattle.redis_routing.specs.Names.{Names}
 use Rattle.redis_routing.specs.ReadOnly.{is_among}
+use Rattle.redis_routing.specs.Registry.{Registrations}
 use Rattle.redis_routing.specs.Routing.{routing}
 use Rattle.redis_bytes.specs.Requests.{Words}
 use Rattle.redis_routing.specs.RoutingInfo.{Routing, SingleNodeRouting, MultipleNodeRouting, single_node, multi_node, random, random_primary, specific_node, by_address, all_nodes, all_masters, multi_slot}
@@ -62,8 +63,9 @@ routed_of (Some (single_node single)) = to_one single
 routed_of (Some (multi_node multiple policy)) = to_several multiple policy
 
 -- the command only reads if the number is not 0
-abbrev pub names_for : ℕ → Names
-names_for only_reads = record { only_reads = λ name. nat_lt 0 only_reads; registered = [] }
+abbrev pub names_for : ℕ → Registrations → Names
+names_for only_reads registered =
+    record { only_reads = λ name. nat_lt 0 only_reads; registered = registered }
 
 -- the list has the name of the request's command if and only if the command only reads
 abbrev pub AreNamesFor : ℕ → List ℕ → List (List ℕ) → Type 0
@@ -71,8 +73,9 @@ AreNamesFor only_reads request names = (words : Words) → IsRequest words reque
     → IfSome (command_name (map Some words)) (λ name. is_among names name ≡ nat_lt 0 only_reads)
 
 -- where a request goes by the words of its command
-abbrev pub routed_by : ℕ → Words → Routed
-routed_by only_reads words = routed_of (routing (names_for only_reads) (map Some words))
+abbrev pub routed_by : ℕ → Registrations → Words → Routed
+routed_by only_reads registered words =
+    routed_of (routing (names_for only_reads registered) (map Some words))
 
 -- the node by its number: 0 for the primary, else a replica if there is one
 abbrev pub addr_of : ℕ → SlotAddr

@@ -36,6 +36,10 @@ pub(super) fn code_of(fault: &BytesFault, told: &mut Told) -> u32
         BytesFault::Unfit(_) => Outcome::Unfit.code(),
         BytesFault::NoForm => Outcome::NoForm.code(),
         BytesFault::LineFeedInHost => Outcome::LineFeedInHost.code(),
+        BytesFault::BadName(number) => {
+            told.at = *number;
+            Outcome::BadName.code()
+        }
     }
 }
 

@@ -44,6 +44,8 @@ pub enum Outcome {
     NotRoutable,
     /// A slot has no node.
     NotCovered,
+    /// A line registers no name.
+    BadName,
 }
 
 impl Outcome {
@@ -71,6 +73,7 @@ impl Outcome {
             Outcome::LineFeedInHost => 16,
             Outcome::NotRoutable => 17,
             Outcome::NotCovered => 18,
+            Outcome::BadName => 19,
         }
     }
 }
@@ -99,6 +102,7 @@ fn message(number: u32) -> &'static str
         16 => "a host has a line feed",
         17 => "a command goes to no single slot and is not split by slot",
         18 => "a slot of a command has no node",
+        19 => "a line registers no name",
         _ => "no answer of this library",
     }
 }

@@ -1,29 +1,31 @@
-ghost use Rattle.std.specs.Prelude.{◌≡◌, ◌≢◌, ◌<◌, ℕ, List, [], IfOk, IfErr, length};
+ghost use Rattle.std.specs.Prelude.{◌≡◌, ◌≢◌, ◌<◌, ℕ, List, IfOk, IfErr, length};
+ghost use Rattle.redis_bytes.specs.NameLines.{IsFirstBadName};
 ghost use Rattle.redis_batch_bytes.specs.declared.fault.BatchFault as faults;
 ghost use Rattle.redis_batch_bytes.specs.declared.splitting.BatchBytes as declared;
 ghost use Rattle.redis_batch_bytes.specs.Plans.{IsUnplanned};
 ghost use Rattle.redis_batch_bytes.specs.Replies.{PipelineIsUncombined};
 ghost use Rattle.slotroute_c.specs.Outcomes.{code};
 ghost use Rattle.slotroute_c.specs.Buffers.{IsWritten};
-ghost use Rattle.slotroute_c.specs.Fields.{with_bytes};
+ghost use Rattle.slotroute_c.specs.Fields.{with_at, with_bytes};
 ghost use Rattle.slotroute_c.specs.Faults.{IsOther};
-ghost use Rattle.slotroute_c.specs.Pipelines.{AreBatchesBy, AreCombinedBy, IsOneTooSmall, outcome_of_batch, with_batch_fault, with_batches};
+ghost use Rattle.slotroute_c.specs.Pipelines.{AreBatchesBy, AreCombinedBy, FailsToPlan, IsOneTooSmall, outcome_of_batch, with_batch_fault, with_batches};
 
 use crate::buffers::put_all;
-use crate::faults::{code_of_reply, code_of_request};
+use crate::faults::{code_of, code_of_reply, code_of_request};
 use crate::outcomes::Outcome;
 use crate::told::Told;
-use redis_batch_bytes::{BatchBytes, BatchFault, combine_pipeline, split_pipeline};
-use redis_routing::Registry;
+use redis_batch_bytes::{BatchFault, combine_pipeline, split_pipeline};
+use redis_bytes::registry_in;
 use std::alloc::Global;
 
 /// Splits a pipeline of requests into one batch for each node, by a table of `slotroute_table`.
 /// Writes each batch's node number to `nodes`, its number of commands to `counts`, the end of its
-/// bytes to `ends`, and its bytes to `out`. `told` has the number of batches and of bytes.
+/// bytes to `ends`, and its bytes to `out`. `told` has the number of batches and of bytes. `names`
+/// registers names of a module's commands.
 ///
 /// # Errors
 ///
-/// In this order: `RequestIncomplete` and `RequestMalformed` for the first request that cannot be
+/// In this order: `BadName` for the first line of `names` that registers no name. `RequestIncomplete` and `RequestMalformed` for the first request that cannot be
 /// read. `NotRoutable` for the first command that goes to no single slot and is not split.
 /// `NotCovered` for the first slot that has no node. `told` has the number of the request.
 /// `TooSmall` if a buffer is too small for what `told` says. `NoMemory` if memory runs out.
@@ -31,6 +33,7 @@ use std::alloc::Global;
 pub extern "C" fn slotroute_split_pipeline(
     alloc: Global,
     requests: &[u8],
+    names: &[u8],
     numbers: &[u16],
     nodes: &mut [u16],
     counts: &mut [usize],
@@ -39,25 +42,32 @@ pub extern "C" fn slotroute_split_pipeline(
     told: &mut Told,
 ) -> u32
     ensures done { result ≡ code Outcome.Done → (batches : declared.BatchBytes)
-        × AreBatchesBy numbers.now requests.now batches
+        × AreBatchesBy names.now numbers.now requests.now batches
         × (told.new ≡ with_batches batches told.old)
         × IsWritten batches.nodes.items nodes.old nodes.new
         × IsWritten batches.counts.items counts.old counts.new
         × IsWritten batches.ends.items ends.old ends.new
         × IsWritten batches.bytes.items out.old out.new }
     ensures too_small { result ≡ code Outcome.TooSmall → (batches : declared.BatchBytes)
-        × AreBatchesBy numbers.now requests.now batches
+        × AreBatchesBy names.now numbers.now requests.now batches
         × (told.new ≡ with_batches batches told.old)
         × IsOneTooSmall batches (length nodes.old) (length counts.old) (length ends.old)
         (length out.old) }
+    ensures bad_name { result ≡ code Outcome.BadName → (number : ℕ)
+        × IsFirstBadName names.now number × (told.new ≡ with_at number told.old) }
     ensures fault { result ≢ code Outcome.Done → result ≢ code Outcome.TooSmall
+        → result ≢ code Outcome.BadName
         → (fault : faults.BatchFault) × (result ≡ code (outcome_of_batch fault))
-        × IsUnplanned [] numbers.now requests.now fault
+        × FailsToPlan names.now (λ registered. IsUnplanned registered numbers.now requests.now) fault
         × (told.new ≡ with_batch_fault fault told.old) }
     ensures unwritten { result ≢ code Outcome.Done → (nodes.new ≡ nodes.old)
         × (counts.new ≡ counts.old) × (ends.new ≡ ends.old) × (out.new ≡ out.old) }
 {
-    let batches = match batches_by(alloc, requests, numbers) {
+    let registry = match registry_in(alloc, names) {
+        Ok(registry) => registry,
+        Err(fault) => return code_of(&fault, told),
+    };
+    let batches = match split_pipeline(alloc, requests, &registry, numbers) {
         Ok(batches) => batches,
         Err(fault) => return code_of_batch(&fault, told),
     };
@@ -83,8 +93,8 @@ pub extern "C" fn slotroute_split_pipeline(
 }
 
 /// Writes the replies to the requests of a pipeline, by the replies to its batches. `replies` has
-/// these batch after batch. `told` has the number of bytes. The table must be the one that the
-/// pipeline was split by.
+/// these batch after batch. `told` has the number of bytes. The names and the table must be those that
+/// the pipeline was split by.
 ///
 /// # Errors
 ///
@@ -97,26 +107,35 @@ pub extern "C" fn slotroute_split_pipeline(
 pub extern "C" fn slotroute_combine_pipeline(
     alloc: Global,
     requests: &[u8],
+    names: &[u8],
     numbers: &[u16],
     replies: &[u8],
     out: &mut [u8],
     told: &mut Told,
 ) -> u32
     ensures done { result ≡ code Outcome.Done → (combined : List ℕ)
-        × AreCombinedBy numbers.now requests.now replies.now combined
+        × AreCombinedBy names.now numbers.now requests.now replies.now combined
         × IsWritten combined out.old out.new
         × (told.new ≡ with_bytes (length combined) told.old) }
     ensures too_small { result ≡ code Outcome.TooSmall → (combined : List ℕ)
-        × AreCombinedBy numbers.now requests.now replies.now combined
+        × AreCombinedBy names.now numbers.now requests.now replies.now combined
         × (length out.old < length combined)
         × (told.new ≡ with_bytes (length combined) told.old) }
+    ensures bad_name { result ≡ code Outcome.BadName → (number : ℕ)
+        × IsFirstBadName names.now number × (told.new ≡ with_at number told.old) }
     ensures fault { result ≢ code Outcome.Done → result ≢ code Outcome.TooSmall
+        → result ≢ code Outcome.BadName
         → (fault : faults.BatchFault) × (result ≡ code (outcome_of_batch fault))
-        × PipelineIsUncombined [] numbers.now requests.now replies.now fault
+        × FailsToPlan names.now (λ registered.
+        PipelineIsUncombined registered numbers.now requests.now replies.now) fault
         × (told.new ≡ with_batch_fault fault told.old) }
     ensures unwritten { result ≢ code Outcome.Done → out.new ≡ out.old }
 {
-    let combined = match combined_by(alloc, requests, numbers, replies) {
+    let registry = match registry_in(alloc, names) {
+        Ok(registry) => registry,
+        Err(fault) => return code_of(&fault, told),
+    };
+    let combined = match combine_pipeline(alloc, requests, &registry, numbers, replies) {
         Ok(combined) => combined,
         Err(fault) => return code_of_batch(&fault, told),
     };
@@ -126,31 +145,6 @@ pub extern "C" fn slotroute_combine_pipeline(
     }
     put_all(out, &combined);
     Outcome::Done.code()
-}
-
-/// The batches of a pipeline by a table.
-fn batches_by(alloc: Global, requests: &[u8], numbers: &[u16]) -> Result<BatchBytes, BatchFault>
-    ensures batches { IfOk result (λ batches. AreBatchesBy numbers.now requests.now batches) }
-    ensures fault { IfErr result (λ fault. IsUnplanned [] numbers.now requests.now fault) }
-{
-    let registry = Registry::new(alloc);
-    split_pipeline(alloc, requests, &registry, numbers)
-}
-
-/// The replies to the requests of a pipeline, by the replies to its batches and a table.
-fn combined_by(
-    alloc: Global,
-    requests: &[u8],
-    numbers: &[u16],
-    replies: &[u8],
-) -> Result<Vec<u8>, BatchFault>
-    ensures combined { IfOk result (λ combined.
-        AreCombinedBy numbers.now requests.now replies.now combined.items) }
-    ensures fault { IfErr result (λ fault.
-        PipelineIsUncombined [] numbers.now requests.now replies.now fault) }
-{
-    let registry = Registry::new(alloc);
-    combine_pipeline(alloc, requests, &registry, numbers, replies)
 }
 
 /// The code of a pipeline's fault. `told` gets the numbers that go with it.

@@ -7,15 +7,16 @@ ghost use Rattle.slotroute_c.specs.Faults.{outcome_of, with_fault};
 ghost use Rattle.redis_routing.specs.declared.policy.ResponsePolicy as declared;
 ghost use Rattle.redis_routing.specs.Routing.{routing};
 ghost use Rattle.redis_routing.specs.RoutingInfo.{as_routing, as_single_node, as_multiple_nodes};
+ghost use Rattle.slotroute_c.specs.Named.{FailsBy, WithNames};
 ghost use Rattle.slotroute_c.specs.Routed.{AreNamesFor, names_for, routed, routed_of, routed_by, to_one, to_several, addr_number, policy_number, addr_of};
 
 use crate::faults::code_of;
 use crate::outcomes::Outcome;
 use crate::told::Told;
 use cluster_slots::SlotAddr;
-use redis_bytes::BytesFault;
+use redis_bytes::{BytesFault, registry_in};
 use redis_routing::{
-    AggregateOp, LogicalAggregateOp, MultipleNodeRoutingInfo, Names, ReadOnlyNames, Registry,
+    AggregateOp, LogicalAggregateOp, MultipleNodeRoutingInfo, Names, ReadOnlyNames,
     ResponsePolicy, Routable, RoutingInfo, SingleNodeRoutingInfo,
 };
 use resp::{RequestError, read_request};
@@ -35,30 +36,34 @@ pub struct Routed {
     pub policy: u32,
 }
 
-/// Where a request goes. `only_reads` is not 0 if its command only reads, so that any node of a key's
-/// slot may serve it. A command that names a slot by its number, as `CLUSTER ADDSLOTS 5`, goes to the
-/// primary either way.
+/// Where a request goes. `names` registers names of a module's commands. `only_reads` is not 0 if its
+/// command only reads, so that any node of a key's slot may serve it. A command that names a slot by
+/// its number, as `CLUSTER ADDSLOTS 5`, goes to the primary either way.
 ///
 /// # Errors
 ///
+/// In this order: `BadName` for the first line of `names` that registers no name.
 /// `RequestIncomplete`, `RequestMalformed` and `AfterRequest` if the bytes are not one request.
 /// `NoMemory` if memory runs out.
 #[unsafe(no_mangle)]
 pub extern "C" fn slotroute_route(
     alloc: Global,
     request: &[u8],
+    names: &[u8],
     only_reads: u32,
     routed: &mut Routed,
     told: &mut Told,
 ) -> u32
     ensures done { result ≡ code Outcome.Done → (words : Words) × IsRequest words request.now
-        × (routed.new ≡ routed_by only_reads words) × (told.new ≡ told.old) }
+        × WithNames names.now (λ registered. routed.new ≡ routed_by only_reads registered words)
+        × (told.new ≡ told.old) }
     ensures fault { result ≢ code Outcome.Done → (fault : faults.BytesFault)
-        × (result ≡ code (outcome_of fault)) × IsUnread request.now fault
+        × (result ≡ code (outcome_of fault))
+        × FailsBy names.now (λ registered. IsUnread request.now) fault
         × (told.new ≡ with_fault fault told.old) }
     ensures unwritten { result ≢ code Outcome.Done → routed.new ≡ routed.old }
 {
-    match routing_of(alloc, request, only_reads) {
+    match routing_of(alloc, request, names, only_reads) {
         Ok(info) => {
             *routed = routed_of(&info);
             Outcome::Done.code()
@@ -71,13 +76,15 @@ pub extern "C" fn slotroute_route(
 fn routing_of(
     alloc: Global,
     request: &[u8],
+    names: &[u8],
     only_reads: u32,
 ) -> Result<Option<RoutingInfo>, BytesFault>
     ensures routed { IfOk result (λ info. (words : Words) × IsRequest words request.now
-        × (option_map as_routing info ≡ routing (names_for only_reads) (map Some words))) }
-    ensures fault { IfErr result (λ fault. IsUnread request.now fault) }
+        × WithNames names.now (λ registered.
+        option_map as_routing info ≡ routing (names_for only_reads registered) (map Some words))) }
+    ensures fault { IfErr result (FailsBy names.now (λ registered. IsUnread request.now)) }
 {
-    let registry = Registry::new(alloc);
+    let registry = registry_in(alloc, names)?;
     let read_only = names_for(alloc, request, only_reads)?;
     let names = Names {
         read_only: &read_only,

@@ -13,7 +13,7 @@ use Rattle.slotroute_serve.specs.declared.direction.Direction.{Direction}
 use Rattle.slotroute_serve.specs.declared.refusal.CommandFault.{CommandFault}
 use Rattle.slotroute_serve.specs.declared.refusal.CommandFault.TheVariants as command
 use Rattle.slotroute_serve.specs.Faults.{IsCaused, fault_at_line, fault_of_run, run_unread}
-use Rattle.slotroute_serve.specs.Lines.{fields_of}
+use Rattle.redis_bytes.specs.NameLines.{fields_of}
 use Rattle.slotroute_serve.specs.RunFaults.{WhyNoText, RunEnds, RunStops}
 use Rattle.slotroute_serve.specs.Runs.{no_keys, AreRun, StopsAfter}
 use Rattle.slotroute_serve.specs.Streams.{Leaves}

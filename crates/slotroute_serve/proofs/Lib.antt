@@ -3,7 +3,7 @@ pub mod Replies
 pub mod RunningCommands
 pub mod Ending
 pub mod Leaving
-pub mod MultiLines
+pub mod NoMapLine
 pub mod Reading
 pub mod Running
 pub mod Serving

@@ -8,7 +8,8 @@ use Rattle.std.proofs.lemmas.List.{append-nil, length_push, take_more, take_rest
 use Rattle.std.proofs.lemmas.Grind.{common_steps}
 use Rattle.cluster_map.specs.Address.{Address}
 use Rattle.cluster_map.specs.SlotNodes.{RangeNodes}
-use Rattle.slotroute_serve.specs.Lines.{onto_first_line, raw_lines, lines_of, line_of, fields_of, until_blank, leading_lines, after_lines, after_map, StopsInLine, StopsInMap}
+use Rattle.redis_bytes.specs.NameLines.{fields_of}
+use Rattle.slotroute_serve.specs.Lines.{onto_first_line, raw_lines, lines_of, line_of, until_blank, leading_lines, after_lines, after_map, StopsInLine, StopsInMap}
 use Rattle.slotroute_serve.specs.MapLines.{Made, nothing_made, IsNodeField, IsRangeLine, IsMapLine, AreMapLines, IsMap, IsFirstBadLine}
 use Rattle.slotroute_serve.specs.Output.{first_after_map}
 use Rattle.slotroute_serve.specs.Faults.{IsInputLeft, map_unread}

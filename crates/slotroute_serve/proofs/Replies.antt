@@ -1,5 +1,5 @@
 -- Replies in a list, as they are printed.
-use Rattle.std.proofs.Common.{◌≡◌, ◌≤◌, ℕ, ◌-◌, List, [], ◌∷◌, ◌++◌, arith, refl, ap, ◌∙◌, append_assoc, length, map, take, drop, get_or, codes}
+use Rattle.std.proofs.Common.{◌≡◌, ◌≤◌, ℕ, ◌-◌, List, [], ◌∷◌, ◌++◌, arith, refl, ap, append_assoc, length, map, take, drop, get_or, codes}
 use Rattle.std.specs.List.{flat_map}
 use Rattle.std.proofs.lemmas.List.{take_rest, take_all}
 use Rattle.resp_core.specs.Reply.{replies_of}

@@ -11,7 +11,8 @@ use Rattle.redis_cluster.specs.Unsplit.{Keyspace}
 use Rattle.slotroute_serve.specs.Commands.{IsRunRefused}
 use Rattle.slotroute_serve.specs.declared.direction.Direction.{Direction}
 use Rattle.slotroute_serve.specs.declared.refusal.Refusal.{Refusal}
-use Rattle.slotroute_serve.specs.Lines.{line_of, fields_of, after_lines, after_map, StopsInLine}
+use Rattle.redis_bytes.specs.NameLines.{fields_of}
+use Rattle.slotroute_serve.specs.Lines.{line_of, after_lines, after_map, StopsInLine}
 use Rattle.slotroute_serve.specs.Runs.{field_lines, no_keys, AreRun, AllRun, RefusedAt, StopsAfter, CutShort}
 use Rattle.slotroute_serve.specs.Streams.{Leaves}
 use Rattle.slotroute_serve.proofs.Leaving.{after_lines-more, line_read, not_read}

@@ -6,7 +6,6 @@ pub mod Inner
 pub mod Faults
 pub mod Lines
 pub mod MapLines
-pub mod MultiLines
 pub mod Output
 pub mod Requests
 pub mod RunFaults

@@ -1,8 +1,8 @@
 -- The lines of the input, and their fields.
-use Rattle.std.specs.Prelude.{◌≡◌, ◌≤◌, ℕ, ◌+◌, zero, suc, List, [], ◌∷◌, ◌++◌, ◌==◌, if◌then◌else◌, length, map, filter, nat_lt}
+use Rattle.std.specs.Prelude.{◌≡◌, ◌≤◌, ℕ, ◌+◌, zero, suc, List, [], ◌∷◌, ◌++◌, ◌==◌, if◌then◌else◌, length, map}
 use Rattle.std.specs.Io.BufRead.{strip_last, first_piece, drop_through}
-use Rattle.std.specs.List.{slice_split}
-use Rattle.slotroute_serve.specs.Printed.{line_feed, space}
+use Rattle.redis_bytes.specs.NameLines.{fields_of}
+use Rattle.redis_bytes.specs.Table.{line_feed}
 
 abbrev pub carriage_return : ℕ
 carriage_return = 13
@@ -24,10 +24,6 @@ lines_of input = map (strip_last carriage_return) (raw_lines input)
 -- the first line
 abbrev pub line_of : List ℕ → List ℕ
 line_of input = strip_last carriage_return (first_piece line_feed input)
-
--- the fields of a line: the longest runs of bytes other than space
-abbrev pub fields_of : List ℕ → List (List ℕ)
-fields_of line = filter (λ f. nat_lt 0 (length f)) (slice_split (λ b. b == space) line)
 
 -- the lines, as their fields, before the first that has none
 abbrev pub until_blank : List (List (List ℕ)) → List (List (List ℕ))

@@ -7,7 +7,7 @@ use Rattle.cluster_map.specs.AddressText.{IsAddressText}
 use Rattle.cluster_map.specs.Number.{number_in}
 use Rattle.cluster_map.specs.SlotNodes.{RangeNodes}
 use Rattle.redis_routing.specs.Registry.{Registrations}
-use Rattle.slotroute_serve.specs.MultiLines.{Registers}
+use Rattle.redis_bytes.specs.NameLines.{Registers}
 use Rattle.slotroute_serve.specs.declared.input.LeadingLines.{LeadingLines}
 
 -- the ranges, in the order of their lines, and the registered names

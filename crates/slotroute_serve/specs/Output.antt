@@ -12,7 +12,8 @@ use Rattle.slotroute_serve.specs.declared.direction.Direction.{Direction}
 use Rattle.slotroute_serve.specs.declared.direction.Direction.TheVariants.{Forward, Reverse}
 use Rattle.slotroute_serve.specs.declared.refusal.Refusal.{Refusal}
 use Rattle.slotroute_serve.specs.RefusalText.{run_refusal_text}
-use Rattle.slotroute_serve.specs.Printed.{line_feed, space}
+use Rattle.redis_bytes.specs.NameLines.{space}
+use Rattle.redis_bytes.specs.Table.{line_feed}
 use Rattle.slotroute_serve.specs.Lines.{leading_lines, after_lines, after_map}
 use Rattle.slotroute_serve.specs.MapLines.{Made, IsMap, IsFirstBadLine}
 use Rattle.slotroute_serve.specs.Runs.{AllRun, RefusedAt}

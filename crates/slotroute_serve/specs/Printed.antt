@@ -3,14 +3,10 @@ use Rattle.std.specs.Prelude.{ℕ, List, [], ◌∷◌, ◌++◌, codes}
 use Rattle.std.specs.Fmt.{signed_decimal}
 use Rattle.std.specs.List.{flat_map}
 use Rattle.cluster_map.specs.Address.{display_text}
+use Rattle.redis_bytes.specs.NameLines.{space}
+use Rattle.redis_bytes.specs.Table.{line_feed}
 use Rattle.redis_cluster.specs.Trace.{Entry}
 use Rattle.resp_core.specs.Reply.{Reply, Replies, nil, int, bulk, array, simple, okay, pairs, no_replies, reply}
-
-abbrev pub line_feed : ℕ
-line_feed = 10
-
-abbrev pub space : ℕ
-space = 32
 
 -- a part that was sent: the node, and the words, each after one space
 abbrev pub send_line : Entry → List ℕ

@@ -8,7 +8,8 @@ use Rattle.redis_cluster.specs.Unsplit.{Keyspace}
 use Rattle.slotroute_serve.specs.Commands.{IsCommandRun, IsRunRefused}
 use Rattle.slotroute_serve.specs.declared.direction.Direction.{Direction}
 use Rattle.slotroute_serve.specs.declared.refusal.Refusal.{Refusal}
-use Rattle.slotroute_serve.specs.Lines.{lines_of, fields_of, after_lines, StopsInLine}
+use Rattle.redis_bytes.specs.NameLines.{fields_of}
+use Rattle.slotroute_serve.specs.Lines.{lines_of, after_lines, StopsInLine}
 
 -- the lines of an input, each as its fields
 abbrev pub field_lines : List ℕ → List (List (List ℕ))

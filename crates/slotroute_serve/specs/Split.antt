@@ -10,7 +10,8 @@ use Rattle.redis_routing.specs.Registry.{Registrations}
 use Rattle.redis_cluster.specs.Command.{Arguments}
 use Rattle.redis_cluster.specs.Complete.{multi_slot_routes, part_by_name}
 use Rattle.slotroute_serve.specs.Commands.{names_with}
-use Rattle.slotroute_serve.specs.Printed.{line_feed, space}
+use Rattle.redis_bytes.specs.NameLines.{space}
+use Rattle.redis_bytes.specs.Table.{line_feed}
 
 -- the routes of the parts of a command with these words, if it is a complete multi-key command by
 -- the tables or these registered names

@@ -3,18 +3,19 @@ ghost use Rattle.std.specs.List.{AllZip};
 ghost use Rattle.std.specs.Io.BufRead.{DropsThrough, strip_last};
 ghost use Rattle.cluster_map.specs.Address.{Address};
 ghost use Rattle.cluster_map.specs.SlotNodes.{RangeNodes};
-ghost use Rattle.slotroute_serve.specs.Lines.{line_of, fields_of, leading_lines, after_map, StopsInLine};
+ghost use Rattle.redis_bytes.specs.NameLines.{fields_of};
+ghost use Rattle.slotroute_serve.specs.Lines.{line_of, leading_lines, after_map, StopsInLine};
 ghost use Rattle.slotroute_serve.specs.MapLines.{Made, made_in, IsNodeField, IsRangeLine, IsMapLine, IsMap};
 ghost use Rattle.slotroute_serve.specs.Output.{first_after_map};
 ghost use Rattle.slotroute_serve.specs.Faults.{WhyNoMap, IsInputLeft};
 ghost use Rattle.slotroute_serve.specs.Streams.{MayFailToRead, Leaves};
 
 use crate::fault::{MapFault, ReadFault};
-use crate::multi::register_line;
 use crate::streams::Source;
 use cluster_map::node_address::split_node_address;
 use cluster_map::{NodeAddress, SlotRange};
 use cluster_slots::parse_u16;
+use redis_bytes::{fields_in, register_line};
 use redis_cluster::routing::Registry;
 use std::alloc::{AllocError, Global};
 
@@ -90,14 +91,6 @@ fn strip(line: &mut Vec<u8>, byte: u8)
     if line.last() == Some(&byte) {
         line.pop();
     }
-}
-
-pub(super) fn fields_in(alloc: Global, line: &[u8]) -> Result<Vec<&[u8]>, AllocError>
-    ensures { IfOk result (λ fields. map (λ field. field.now) fields.items ≡ fields_of line.now) }
-{
-    line.split(|byte| *byte == b' ')
-        .filter(|field| !field.is_empty())
-        .collect(alloc)
 }
 
 /// Adds what a line with these fields makes, and returns whether it is a map line.

@@ -5,7 +5,6 @@ mod command;
 mod direction;
 mod fault;
 mod input;
-mod multi;
 mod output;
 mod printing;
 mod program;

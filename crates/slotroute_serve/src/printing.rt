@@ -4,7 +4,8 @@ ghost use Rattle.resp_core.specs.Reply.{replies_of};
 ghost use Rattle.resp_core.specs.View.{view};
 ghost use Rattle.memory_nodes.specs.Nodes.{entry_of};
 ghost use Rattle.memory_nodes.specs.Parts.{words};
-ghost use Rattle.slotroute_serve.specs.Printed.{space, send_line, printed, printed_items, command_lines};
+ghost use Rattle.redis_bytes.specs.NameLines.{space};
+ghost use Rattle.slotroute_serve.specs.Printed.{send_line, printed, printed_items, command_lines};
 
 use crate::words::push_word;
 use memory_nodes::TraceEntry;

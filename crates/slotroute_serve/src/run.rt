@@ -2,7 +2,7 @@ ghost use Rattle.std.specs.Prelude.{◌≡◌, [], ◌∷◌, is_some, IfOk, IfE
 ghost use Rattle.memory_nodes.specs.Nodes.{registered_in, keyspace_in};
 ghost use Rattle.slotroute_serve.specs.Commands.{AreReadOnly, RefuseNothing};
 ghost use Rattle.slotroute_serve.specs.Faults.{IsCaused, fault_of_run};
-ghost use Rattle.slotroute_serve.specs.Lines.{fields_of};
+ghost use Rattle.redis_bytes.specs.NameLines.{fields_of};
 ghost use Rattle.slotroute_serve.specs.Runs.{AreRun};
 ghost use Rattle.slotroute_serve.specs.RunFaults.{RunEnds, RunStops, WhyNoText};
 ghost use Rattle.slotroute_serve.specs.Streams.{MayFailToRead, MayFailToWrite};
@@ -10,12 +10,13 @@ ghost use Rattle.slotroute_serve.specs.Streams.{MayFailToRead, MayFailToWrite};
 use crate::command::{read_only_names, run_command};
 use crate::direction::Direction;
 use crate::fault::RunFault;
-use crate::input::{fields_in, next_line};
+use crate::input::next_line;
 use crate::output::emit;
 use crate::refusal::CommandFault;
 use crate::streams::{Sink, Source};
 use cluster_map::{ReadRoutingStrategy, SlotMap};
 use memory_nodes::MemoryNodes;
+use redis_bytes::fields_in;
 use redis_cluster::routing::{ReadOnlyNames, Registry};
 use std::alloc::Global;
 

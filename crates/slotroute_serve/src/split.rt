@@ -2,7 +2,7 @@ ghost use Rattle.std.specs.Prelude.{◌≡◌, Some, ◌∷◌, ◌++◌, map, s
 ghost use Rattle.std.specs.List.{flat_map};
 ghost use Rattle.redis_cluster.specs.Split.{split_part};
 ghost use Rattle.slotroute_serve.specs.Faults.{WhyNoSplit};
-ghost use Rattle.slotroute_serve.specs.Printed.{space};
+ghost use Rattle.redis_bytes.specs.NameLines.{space};
 ghost use Rattle.slotroute_serve.specs.Split.{part_line, ArePartLines, IsSplitAnswer};
 
 use crate::command::read_only_names;

@@ -1,5 +1,5 @@
 ghost use Rattle.std.specs.Prelude.{◌≡◌, ◌++◌, ◌∷◌, map, IfOk, OnOk};
-ghost use Rattle.slotroute_serve.specs.Printed.{space};
+ghost use Rattle.redis_bytes.specs.NameLines.{space};
 
 use resp_core::Cmd;
 use std::alloc::{AllocError, Global};

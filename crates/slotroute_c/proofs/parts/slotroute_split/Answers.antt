@@ -1,7 +1,11 @@
-use Rattle.std.proofs.Common.{◌≡◌, ℕ, List, length, refl, subst, ap, ◌∙◌, rules}
+use Rattle.std.proofs.Common.{◌≡◌, inl, ℕ, List, length, refl, subst, ap, ◌∙◌, rules}
+use Rattle.redis_bytes.specs.declared.fault.BytesFault.TheVariants as faults
 use Rattle.slotroute_c.specs.Buffers.{IsWritten}
 use Rattle.slotroute_c.specs.Parts.{route_slots, IsTooSmall}
 use Rattle.slotroute_c.proofs.parts.slotroute_split.Goals as goal
+
+pub returns-in_default-clause-fault : goal.returns-in_default-clause-fault
+returns-in_default-clause-fault c = λ done small. (faults.Memory, c.code_of-in_default.ensures.code, inl tt, c.code_of-in_default.ensures.told)
 
 pub returns-then-slots-len-clause-too_small : goal.returns-then-slots-len-clause-too_small
 returns-then-slots-len-clause-too_small c =

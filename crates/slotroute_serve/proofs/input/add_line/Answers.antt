@@ -1,6 +1,6 @@
 use Rattle.std.proofs.Common.{map, refl}
 use Rattle.slotroute_serve.specs.MapLines.{made_in, range_line}
-use Rattle.slotroute_serve.proofs.MultiLines.{no_map_line}
+use Rattle.slotroute_serve.proofs.NoMapLine.{no_map_line}
 use Rattle.slotroute_serve.proofs.input.add_line.Goals as goal
 
 pub returns-in_ok-push-in-Some-clause-good : goal.returns-in_ok-push-in-Some-clause-good

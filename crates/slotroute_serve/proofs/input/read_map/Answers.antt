@@ -1,6 +1,6 @@
 use Rattle.std.proofs.Common.{arith, map, ap, ◌∙◌, length, ◌≡◌, ◌<◌}
 use Rattle.std.proofs.lemmas.Bool.Decides.{nat_tests}
-use Rattle.slotroute_serve.specs.Lines.{fields_of}
+use Rattle.redis_bytes.specs.NameLines.{fields_of}
 use Rattle.slotroute_serve.specs.MapLines.{made_in}
 use Rattle.slotroute_serve.proofs.Reading.{HasLine, at_end, next_at_end, left_at_end, at_blank, next_at_blank, left_at_blank, at_bad, left_at_bad, left_before_line, at_good, no_memory_after_line, unread_line, none_borrowed, some_borrowed}
 use Rattle.slotroute_serve.proofs.input.read_map.Goals as goal

@@ -1,6 +1,6 @@
 use Rattle.std.proofs.Common.{◌++◌, ◌∷◌, [], ◌∙◌, is_some, refl}
 use Rattle.memory_nodes.specs.Nodes.{registered_in, keyspace_in}
-use Rattle.slotroute_serve.specs.Lines.{fields_of}
+use Rattle.redis_bytes.specs.NameLines.{fields_of}
 use Rattle.slotroute_serve.proofs.Ending.{unread_caused, refused_caused, stops_as, reader_stops, text_stops, not_begun, emit_stops}
 use Rattle.slotroute_serve.proofs.Reading.{HasLine}
 use Rattle.slotroute_serve.proofs.Running.{run_under, run_more, run_ended, stopped_in_line, stopped_before_line}

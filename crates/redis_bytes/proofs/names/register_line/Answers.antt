@@ -1,7 +1,7 @@
 use Rattle.std.proofs.Common.{rules, sym, ap, ◌∙◌, option_map}
 use borrow.Author.Tests.{tests}
-use Rattle.slotroute_serve.proofs.MultiLines.{too_few, asks_to}
-use Rattle.slotroute_serve.proofs.multi.register_line.Goals as goal
+use Rattle.redis_bytes.proofs.NameLines.{too_few, asks_to}
+use Rattle.redis_bytes.proofs.names.register_line.Goals as goal
 
 pub returns-in_default-clause-bad : goal.returns-in_default-clause-bad
 returns-in_default-clause-bad c = λ _ next. too_few c.args.fields.now c.args.registry.now next c.in_default.len_below

@@ -1,5 +1,6 @@
--- The map lines that register a name: `multi PATTERN POLICY NAME`, or `NAME WORD` for one of two.
-use Rattle.std.specs.Prelude.{◌≡◌, ℕ, List, [], ◌∷◌, ◌++◌, if◌then◌else◌, Option, None, Some, codes}
+-- The lines that register a name: `multi PATTERN POLICY NAME`, or `NAME WORD` for one of two.
+use Rattle.std.specs.Prelude.{◌≡◌, ℕ, List, [], ◌∷◌, ◌++◌, ◌==◌, if◌then◌else◌, Option, None, Some, codes, filter, length, map, nat_lt}
+use Rattle.std.specs.List.{slice_split}
 use Rattle.std.specs.Str.{bytes_eq}
 use Rattle.cluster_slots.specs.declared.aggregate_op.AggregateOp.TheVariants.{Sum}
 use Rattle.cluster_slots.specs.declared.arg_pattern.MultiSlotArgPattern.{MultiSlotArgPattern}
@@ -10,7 +11,20 @@ use Rattle.redis_routing.specs.Registry.{Registrations, Registered}
 use Rattle.redis_routing.specs.Upper.{upper}
 use Rattle.redis_routing.specs.declared.policy.ResponsePolicy.{ResponsePolicy}
 use Rattle.redis_routing.specs.declared.policy.ResponsePolicy.TheVariants.{AllSucceeded, Aggregate, CombineArrays}
-use Rattle.slotroute_serve.specs.Printed.{space}
+use Rattle.redis_bytes.specs.Table.{line_feed}
+use Rattle.redis_bytes.specs.declared.fault.BytesFault.{BytesFault}
+use Rattle.redis_bytes.specs.declared.fault.BytesFault.TheVariants.{Memory, BadName}
+
+abbrev pub space : ℕ
+space = 32
+
+-- the fields of a line: the longest runs of bytes other than space
+abbrev pub fields_of : List ℕ → List (List ℕ)
+fields_of line = filter (λ f. nat_lt 0 (length f)) (slice_split (λ b. b == space) line)
+
+-- the lines of a text that are not empty
+abbrev pub lines_of : List ℕ → List (List ℕ)
+lines_of text = filter (λ l. nat_lt 0 (length l)) (slice_split (λ b. b == line_feed) text)
 
 abbrev pub multi_word : List ℕ
 multi_word = codes "multi"
@@ -56,3 +70,34 @@ pub record Registers (fields : List (List ℕ)) (old new : Registrations) : Type
   pub registered : Registered
   pub asks : IsMultiLine fields name registered
   pub done : IsRegistered old new name registered
+
+-- the lines register their names, one after the other
+abbrev pub Register : List (List (List ℕ)) → Registrations → Registrations → Type 0
+Register [] old new = new ≡ old
+Register (line ∷ lines) old new =
+    (between : Registrations) × Registers line old between × Register lines between new
+
+-- the fields of each line of a text that is not empty
+abbrev pub name_lines : List ℕ → List (List (List ℕ))
+name_lines text = map fields_of (lines_of text)
+
+-- the names that the lines of a text register
+abbrev pub AreNamesIn : List ℕ → Registrations → Type 0
+AreNamesIn text registered = Register (name_lines text) [] registered
+
+-- The line of this number is the first that registers no name. Empty lines have no number.
+pub record IsFirstBadName (text : List ℕ) (number : ℕ) : Type 0 where
+  pub good : List (List (List ℕ))
+  pub bad : List (List ℕ)
+  pub later : List (List (List ℕ))
+  pub split : name_lines text ≡ good ++ bad ∷ later
+  pub registered : Registrations
+  pub before : Register good [] registered
+  pub none : (next : Registrations) → ¬ (Registers bad registered next)
+  pub counted : number ≡ length good
+
+-- why a text has no names
+abbrev pub HasNoNames : List ℕ → BytesFault → Type 0
+HasNoNames text Memory = Unit {0}
+HasNoNames text (BadName number) = IsFirstBadName text number
+HasNoNames text _ = ⊥

@@ -1,15 +1,70 @@
-ghost use Rattle.std.specs.Prelude.{◌≡◌, true, false, map, option_map, IfOk};
+ghost use Rattle.std.specs.Prelude.{◌≡◌, true, false, map, option_map, IfOk, IfErr};
 ghost use Rattle.redis_routing.specs.Lookup.{lookup_name};
 ghost use Rattle.redis_routing.specs.Registry.{Registrations};
-ghost use Rattle.slotroute_serve.specs.MultiLines.{Registers, pattern_words, policy_words, name_of_words};
+ghost use Rattle.redis_bytes.specs.NameLines.{AreNamesIn, HasNoNames, Registers, fields_of, lines_of, pattern_words, policy_words, name_of_words};
 
-use redis_cluster::routing::{
-    AggregateOp, MultiSlotArgPattern, RegisterError, Registry, ResponsePolicy,
-};
+use crate::fault::BytesFault;
+use cluster_slots::{AggregateOp, MultiSlotArgPattern};
+use redis_routing::{RegisterError, Registry, ResponsePolicy};
 use std::alloc::{AllocError, Global};
 
-/// Registers the name of a line with these fields, and returns whether it could.
-pub(super) fn register_line(
+/// The names that the lines of a text register. The line `multi keys sum COUNTKEYS` registers
+/// `COUNTKEYS`, whose arguments are keys and whose reply is a sum.
+///
+/// A line has the fields `multi PATTERN POLICY NAME`, with spaces between them, and ends with `\n`.
+/// PATTERN is `keys`, `pairs`, `last` or `triples`, and POLICY is `ok`, `sum` or `list`. A name of
+/// two words takes two fields. Empty lines register nothing, and are not counted.
+///
+/// # Errors
+///
+/// `BadName` for the first line that registers no name, as one that the tables have. `Memory` if
+/// memory runs out.
+pub fn registry_in(alloc: Global, text: &[u8]) -> Result<Registry, BytesFault>
+    // Each line registers its name.
+    ensures names { IfOk result (λ registry. AreNamesIn text.now registry) }
+    // Each fault has its cause.
+    ensures fault { IfErr result (λ fault. HasNoNames text.now fault) }
+{
+    let mut registry = Registry::new(alloc);
+    let lines = lines_in(alloc, text)?;
+    for (number, line) in lines.iter().enumerate() {
+        let fields = fields_in(alloc, line)?;
+        if !register_line(alloc, &fields, &mut registry)? {
+            return Err(BytesFault::BadName(number));
+        }
+    }
+    Ok(registry)
+}
+
+/// The fields of a line: what stands between its spaces, except empty runs.
+///
+/// # Errors
+///
+/// If memory runs out.
+pub fn fields_in(alloc: Global, line: &[u8]) -> Result<Vec<&[u8]>, AllocError>
+    ensures { IfOk result (λ fields. map (λ field. field.now) fields.items ≡ fields_of line.now) }
+{
+    line.split(|byte| *byte == b' ')
+        .filter(|field| !field.is_empty())
+        .collect(alloc)
+}
+
+/// The lines of a text that are not empty.
+fn lines_in(alloc: Global, text: &[u8]) -> Result<Vec<&[u8]>, AllocError>
+    ensures { IfOk result (λ lines. map (λ line. line.now) lines.items ≡ lines_of text.now) }
+{
+    text.split(|byte| *byte == b'\n')
+        .filter(|line| !line.is_empty())
+        .collect(alloc)
+}
+
+/// Registers the name of a line with these fields, and returns whether it could. The fields of
+/// `multi keys sum COUNTKEYS` register `COUNTKEYS`.
+///
+/// # Errors
+///
+/// If memory runs out.
+pub fn register_line(
     alloc: Global,
     fields: &[&[u8]],
     registry: &mut Registry,

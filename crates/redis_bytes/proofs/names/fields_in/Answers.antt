@@ -2,7 +2,7 @@ use Rattle.std.proofs.Common.{rules, ◌==◌, nat_lt, length}
 use Rattle.std.proofs.lemmas.Iterator.Splits.{YieldsList-from_slice_split}
 use Rattle.std.proofs.lemmas.Iterator.Consumers.{YieldsList-from_filter, map_from_collect}
 use borrow.Author.Tests.{tests}
-use Rattle.slotroute_serve.proofs.input.fields_in.Goals as goal
+use Rattle.redis_bytes.proofs.names.fields_in.Goals as goal
 
 pub returns : goal.returns
 returns c = map_from_collect _ c.collect.ensures.ran
