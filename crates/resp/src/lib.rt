@@ -3,6 +3,7 @@
 
 mod fault;
 mod fields;
+mod items;
 mod numbers;
 mod reading;
 mod requests;
@@ -12,8 +13,9 @@ mod stop;
 mod writing;
 
 pub use fault::{Fault, ReadError, RequestError, RequestFault, WriteError};
+pub use items::push_items;
 pub use reading::{MAX_LEVELS, read};
 pub use requests::{read_request, request_len};
 pub use response::Response;
 pub use skipping::reply_len;
-pub use writing::{push_command, write, write_command};
+pub use writing::{push_array_line, push_command, write, write_command};

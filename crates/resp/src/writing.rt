@@ -64,6 +64,17 @@ pub fn push_command(out: &mut Vec<u8>, command: &Cmd) -> Result<(), AllocError>
     Ok(())
 }
 
+/// Appends the first line of an array of `count` items: `*2\r\n` for two.
+///
+/// # Errors
+///
+/// If memory runs out. Then the buffer may end with a beginning of the line.
+pub fn push_array_line(out: &mut Vec<u8>, count: usize) -> Result<(), AllocError>
+    ensures { OnOk result (out.new.items ≡ out.old.items ++ line 42 (decimal count)) }
+{
+    push_count(out, b'*', count)
+}
+
 fn push_bulk(out: &mut Vec<u8>, bytes: &[u8]) -> Result<(), AllocError>
     ensures bytes { OnOk result (out.new.items ≡ out.old.items ++ bulk_form bytes.now) }
     ensures short { OnOk result (length bytes.now < 2 ^ 63) }
