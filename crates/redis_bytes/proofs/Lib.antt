@@ -5,3 +5,8 @@ pub mod Splits
 pub mod Numbers
 pub mod Untabled
 pub mod Printed
+pub mod Taking
+pub mod Arrays
+pub mod Combined
+pub mod Unsplit
+pub mod PartNumbers

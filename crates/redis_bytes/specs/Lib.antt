@@ -1,4 +1,5 @@
 pub mod Requests
 pub mod Replies
+pub mod Merged
 pub mod Table
 pub mod Texts

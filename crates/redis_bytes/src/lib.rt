@@ -3,6 +3,8 @@
 
 mod combining;
 mod fault;
+mod merging;
+mod places;
 mod replies;
 mod requests;
 mod routing;
