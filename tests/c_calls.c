@@ -539,6 +539,10 @@ static int once(int call) {
                                             BYTES("-ERR no\r\n*1\r\n$1\r\n1\r\n*1\r\n$-1\r\n"), out,
                                             sizeof out, &told);
         break;
+    case 9: /* resp::push_items resp::push_array_line */
+        answer = slotroute_combine(BYTES(messages[2]), BYTES("*2\r\n$1\r\nx\r\n$-1\r\n*1\r\n$0\r\n\r\n"), out,
+                                   sizeof out, &told);
+        break;
     }
     uint64_t sum = mixed(mixed(14695981039346656037u, slots, sizeof slots), out, sizeof out);
     sum = mixed(mixed(sum, ends, sizeof ends), counts, sizeof counts);

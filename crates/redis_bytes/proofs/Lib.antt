@@ -7,3 +7,8 @@ pub mod Untabled
 pub mod Printed
 pub mod NameLines
 pub mod PartArguments
+pub mod Taking
+pub mod Arrays
+pub mod Combined
+pub mod Unsplit
+pub mod PartNumbers

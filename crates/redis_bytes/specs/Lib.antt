@@ -1,5 +1,6 @@
 pub mod Requests
 pub mod Replies
+pub mod Merged
 pub mod Table
 pub mod Texts
 pub mod NameLines

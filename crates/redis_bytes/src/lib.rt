@@ -3,7 +3,9 @@
 
 mod combining;
 mod fault;
+mod merging;
 mod names;
+mod places;
 mod replies;
 mod requests;
 mod routing;

@@ -12,3 +12,4 @@ pub mod Written
 pub mod Readers
 pub mod NumberLines
 pub mod RequestGrammar
+pub mod ArrayItems

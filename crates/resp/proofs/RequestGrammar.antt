@@ -54,7 +54,7 @@ line_wants : (mark : ℕ) → line_at mark [] ≡ Err WantsMore
 unfolding line_at
 line_wants mark = ap (λ (r : Read ℕ). and_then r (λ _ text. number_line text)) (byte_wants mark)
 
-line_front : (mark : ℕ) (bytes rest : List ℕ) (n : ℕ) → line_at mark bytes ≡ Ok (n, rest) → (bytes ≡ line mark (decimal n) ++ rest) × (n < limit)
+pub line_front : (mark : ℕ) (bytes rest : List ℕ) (n : ℕ) → line_at mark bytes ≡ Ok (n, rest) → (bytes ≡ line mark (decimal n) ++ rest) × (n < limit)
 unfolding line_at
 line_front mark bytes rest n e =
     let a = first_read (byte_at mark bytes) (λ _ text. number_line text) n rest e in
@@ -67,7 +67,7 @@ line_front mark bytes rest n e =
     let is : a.1 ≡ (decimal n ++ crlf) ++ rest = d.0 ∙ ap (λ (t : List ℕ). decimal b.0 ++ 13 ∷ t) ends ∙ ap (λ (k : ℕ). decimal k ++ 13 ∷ 10 ∷ rest) same ∙ sym (append_assoc (decimal n) crlf rest) in
     (byte_front mark bytes a.1 a.0 a.2 ∙ ap (λ (t : List ℕ). mark ∷ t) is, omega (arith, d.1, same))
 
-line_again : (mark n : ℕ) (rest : List ℕ) → n < limit → line_at mark (line mark (decimal n) ++ rest) ≡ Ok (n, rest)
+pub line_again : (mark n : ℕ) (rest : List ℕ) → n < limit → line_at mark (line mark (decimal n) ++ rest) ≡ Ok (n, rest)
 unfolding line_at
 line_again mark n rest low = grind (arith, append_assoc, digits_again, byte_again, read)
 
@@ -111,7 +111,7 @@ bulk_wants : bulk_at [] ≡ Err WantsMore
 unfolding bulk_at
 bulk_wants = ap (λ (r : Read ℕ). and_then r word_at) (line_wants 36)
 
-bulk_front : (bytes rest word : List ℕ) → bulk_at bytes ≡ Ok (word, rest) → (bytes ≡ bulk_form word ++ rest) × (length word < limit)
+pub bulk_front : (bytes rest word : List ℕ) → bulk_at bytes ≡ Ok (word, rest) → (bytes ≡ bulk_form word ++ rest) × (length word < limit)
 unfolding bulk_at word_at
 bulk_front bytes rest word e =
     let a = first_read (line_at 36 bytes) word_at word rest e in
@@ -129,7 +129,7 @@ bulk_front bytes rest word e =
       omega (arith, long, l.1),
     )
 
-bulk_again : (word rest : List ℕ) → length word < limit → bulk_at (bulk_form word ++ rest) ≡ Ok (word, rest)
+pub bulk_again : (word rest : List ℕ) → length word < limit → bulk_at (bulk_form word ++ rest) ≡ Ok (word, rest)
 unfolding bulk_at word_at
 bulk_again word rest short = grind (arith, append_assoc, line_again, so_many_again, byte_again, read)
 

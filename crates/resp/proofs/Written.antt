@@ -10,7 +10,7 @@ use Rattle.resp_core.specs.declared.value.Value.{Value, Array}
 use Rattle.resp_core.proofs.Views.{view-Array}
 use Rattle.resp.specs.Forms.{line, form, forms, bulk_form, count, depth, depth_items, HasForm, HaveForm}
 
-count_is : (rs : List Reply) → count (replies_of rs) ≡ length rs
+pub count_is : (rs : List Reply) → count (replies_of rs) ≡ length rs
 count_is [] = refl
 count_is (r ∷ rs) = omega (arith, count_is rs)
 

@@ -194,6 +194,12 @@ abbrev mutual
   HaveForm no_replies = Unit {0}
   HaveForm (reply r rs) = HasForm r × HaveForm rs
 
+-- a bulk string or nil
+abbrev pub IsBulkOrNil : Reply → Type 0
+IsBulkOrNil nil = Unit {0}
+IsBulkOrNil (bulk bytes) = length bytes < 2 ^ 63
+IsBulkOrNil _ = ⊥
+
 -- ---- requests
 
 -- a request: an array of bulk strings, with no sign or leading zero in its numbers

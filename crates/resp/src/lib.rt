@@ -5,6 +5,7 @@
 mod fault;
 mod fields;
 mod heads;
+mod items;
 mod numbers;
 mod reading;
 mod requests;
@@ -14,6 +15,7 @@ mod stop;
 mod writing;
 
 pub use fault::{Fault, ReadError, RequestError, RequestFault, WriteError};
+pub use items::push_items;
 pub use reading::{MAX_LEVELS, read};
 pub use requests::{read_request, request_len};
 pub use response::Response;

@@ -122,7 +122,7 @@ fn after_bulks(count: u64, bytes: &[u8]) -> Result<&[u8], Stop>
 
 /// A bulk string.
 #[tactic(auto, unfolding(crate::specs::Requests::bulk_at, crate::specs::Requests::word_at))]
-fn bulk_at(bytes: &[u8]) -> Result<(&[u8], &[u8]), Stop>
+pub(super) fn bulk_at(bytes: &[u8]) -> Result<(&[u8], &[u8]), Stop>
     ensures { IsRead (λ x. (x.0.now, x.1.now)) result (bulk_at bytes.now) }
 {
     let (count, rest) = line_at(bytes, b'$')?;
@@ -144,7 +144,7 @@ fn so_many_at(count: u64, bytes: &[u8]) -> Result<(&[u8], &[u8]), Stop>
 
 /// A line with this mark and a number.
 #[tactic(auto, unfolding(crate::specs::Requests::line_at))]
-fn line_at(bytes: &[u8], mark: u8) -> Result<(u64, &[u8]), Stop>
+pub(super) fn line_at(bytes: &[u8], mark: u8) -> Result<(u64, &[u8]), Stop>
     ensures { IsRead (λ x. (x.0, x.1.now)) result (line_at mark bytes.now) }
 {
     let text = after_byte(mark, bytes)?;
