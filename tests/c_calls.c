@@ -515,7 +515,7 @@ static int once(int call) {
     case 2: /* resp::read_request redis_bytes::registry_in redis_bytes::fields_in redis_bytes::register_line */
         answer = slotroute_route(BYTES(messages[2]), BYTES(NAMES), 1, &routed, &told);
         break;
-    case 3: /* redis_bytes::split resp::push_command */
+    case 3: /* redis_bytes::split resp::push_bulk */
         answer = slotroute_split(BYTES(messages[1]), NULL, 0, slots, 8, ends, 8, out, sizeof out, &told);
         break;
     case 4: /* redis_bytes::combine resp::write */
@@ -530,7 +530,7 @@ static int once(int call) {
                                     sizeof out, &redirected);
         break;
     case 7: /* redis_batch_bytes::split_pipeline redis_batches::tasks_of redis_batches::slots_of
-               redis_batches::PipelinePlan::of_tasks */
+               redis_batches::PipelinePlan::of_tasks resp::push_command */
         answer = slotroute_split_pipeline(BYTES(PIPELINE), NULL, 0, halves, SLOTROUTE_SLOTS, slots, 8, counts,
                                           8, ends, 8, out, sizeof out, &told);
         break;
@@ -540,7 +540,7 @@ static int once(int call) {
                                             sizeof out, &told);
         break;
     case 9: /* resp::push_items resp::push_array_line */
-        answer = slotroute_combine(BYTES(messages[2]), BYTES("*2\r\n$1\r\nx\r\n$-1\r\n*1\r\n$0\r\n\r\n"), out,
+        answer = slotroute_combine(BYTES(messages[2]), NULL, 0, BYTES("*2\r\n$1\r\nx\r\n$-1\r\n*1\r\n$0\r\n\r\n"), out,
                                    sizeof out, &told);
         break;
     }
