@@ -92,6 +92,9 @@ pub fn push_bulk(out: &mut Vec<u8>, bytes: &[u8]) -> Result<(), AllocError>
 fn push_count(out: &mut Vec<u8>, mark: u8, count: usize) -> Result<(), AllocError>
     ensures { OnOk result (out.new.items ≡ out.old.items ++ line mark (decimal count)) }
 {
+    if count < 10 {
+        return out.extend_from_slice(&[mark, b'0' + count as u8, b'\r', b'\n']);
+    }
     let mut buffer = Buffer::new();
     push_line(out, mark, buffer.format(count).as_bytes())
 }
