@@ -9,6 +9,7 @@
 #include "transaction.h"
 
 #include <errno.h>
+#include <stdio.h>
 #include <string.h>
 #include <sys/epoll.h>
 #include <sys/socket.h>
@@ -94,6 +95,17 @@ static bool may_read(const client *it) {
            buffer_len(&it->out) + it->queued * it->reply_len < MOST_UNREAD && it->queued_bytes < the_proxy.settings.client_memory / 4;
 }
 
+/* Refuses a command, with its name. */
+static void refuse(client *it, words words, const char *why) {
+    char text[200], name[32] = "";
+    word first = {"", 0};
+    words_next(&words, &first);
+    for (size_t at = 0; at < first.len && at + 1 < sizeof name; at++)
+        name[at] = (char)(first.text[at] > ' ' && first.text[at] <= '~' ? first.text[at] : '?');
+    snprintf(text, sizeof text, "the proxy does not take '%s': %s", name, why);
+    request_refuse(it, text);
+}
+
 /* Takes one whole request. False if it has to wait for the earlier ones. */
 static bool take(client *it, const uint8_t *bytes, size_t len) {
     command_kind kind = command_of(bytes, len);
@@ -114,7 +126,7 @@ static bool take(client *it, const uint8_t *bytes, size_t len) {
     else if (is_about_subscriptions)
         return subscription_begin(it, bytes, len);
     else if (refusal != NULL)
-        request_refuse(it, refusal);
+        refuse(it, words, refusal);
     else if (!is_taken && kind != COMMAND_BLOCKING)
         own_answer(it, kind, bytes, len);
     else if (!request_begin(it, bytes, len, kind))

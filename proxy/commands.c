@@ -79,14 +79,38 @@ static place *place_of(const char *name, size_t len) {
     return &places[at];
 }
 
+/* Puts a word in upper case after a name. Returns the new length, or 0 if it is too long. */
+static size_t join(char *name, size_t len, word word) {
+    if (word.len >= LONGEST_NAME - len)
+        return 0;
+    for (size_t at = 0; at < word.len; at++) {
+        char letter = word.text[at];
+        name[len + at] = (char)(letter >= 'a' && letter <= 'z' ? letter - 32 : letter);
+    }
+    return len + word.len;
+}
+
+static void add(const char *name, size_t len, command_kind kind) {
+    place *found = place_of(name, len);
+    memcpy(found->name, name, len);
+    found->kind = kind;
+}
+
+bool commands_take(const char *name) {
+    char upper[LONGEST_NAME];
+    size_t len = join(upper, 0, (word){name, strlen(name)});
+    if (len == 0 || len + 1 >= LONGEST_NAME || memchr(upper, '|', len) != NULL || place_of(upper, len)->kind != COMMAND_UNKNOWN)
+        return false;
+    add(upper, len, COMMAND_TAKEN);
+    return true;
+}
+
 void commands_start(void) {
     for (size_t group = 0; group < sizeof groups / sizeof *groups; group++) {
         const char *at = groups[group].names;
         while (*at != 0) {
             size_t len = strcspn(at, " ");
-            place *found = place_of(at, len);
-            memcpy(found->name, at, len);
-            found->kind = groups[group].kind;
+            add(at, len, groups[group].kind);
             at += len;
             at += strspn(at, " ");
         }
@@ -119,17 +143,6 @@ bool words_next(words *words, word *word) {
 
 bool word_is(word word, const char *text) {
     return word.len == strlen(text) && strncasecmp(word.text, text, word.len) == 0;
-}
-
-/* Puts a word in upper case after a name. Returns the new length, or 0 if it is too long. */
-static size_t join(char *name, size_t len, word word) {
-    if (word.len >= LONGEST_NAME - len)
-        return 0;
-    for (size_t at = 0; at < word.len; at++) {
-        char letter = word.text[at];
-        name[len + at] = (char)(letter >= 'a' && letter <= 'z' ? letter - 32 : letter);
-    }
-    return len + word.len;
 }
 
 /* What a name of two words is, as SCRIPT LOAD. */
@@ -168,15 +181,15 @@ command_kind command_of(const uint8_t *request, size_t len) {
 const char *command_refusal(command_kind kind) {
     switch (kind) {
     case COMMAND_UNKNOWN:
-        return "the proxy does not take commands that it does not know";
+        return "it does not know this command";
     case COMMAND_MONITOR:
-        return "the proxy does not take MONITOR, SSUBSCRIBE and SUNSUBSCRIBE, which are about one node";
+        return "it is about one node";
     case COMMAND_WAIT:
-        return "the proxy does not take WAIT and WAITAOF, which are about the writes of one connection";
+        return "it is about the writes of one connection";
     case COMMAND_CURSOR:
-        return "the proxy does not take SCAN, which has no cursor over all nodes: send it to each node";
+        return "it is about one node: send it to each";
     case COMMAND_ADMIN:
-        return "the proxy does not take commands that manage nodes: send them to a node";
+        return "it manages a node: send it there";
     default:
         return NULL;
     }

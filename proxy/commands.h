@@ -49,8 +49,11 @@ words words_of(const uint8_t *request, size_t len);
 bool words_next(words *words, word *word);
 bool word_is(word word, const char *text); /* in any case */
 
-/* Fills the table of names, once, before threads start. */
+/* Fills the table of names, before threads start. */
 void commands_start(void);
+
+/* Has another name taken, whose key is its first argument. False if it is none or is known. */
+bool commands_take(const char *name);
 
 /* What a request is, by its first words. */
 command_kind command_of(const uint8_t *request, size_t len);

@@ -67,14 +67,14 @@ static void *wait_for_signals(void *given) {
 
 static void raise_limits(void) {
     struct rlimit limit;
-    rlim_t wanted = the_proxy.settings.max_clients + 1024;
+    rlim_t wanted = 2 * the_proxy.settings.max_clients + 1024; /* some have a connection to a node, too */
     if (getrlimit(RLIMIT_NOFILE, &limit) != 0)
         return;
     if (limit.rlim_cur < wanted) {
         limit.rlim_cur = limit.rlim_max < wanted ? limit.rlim_max : wanted;
         setrlimit(RLIMIT_NOFILE, &limit);
     }
-    if (limit.rlim_cur < wanted)
+    if (limit.rlim_cur < the_proxy.settings.max_clients + 256)
         warn("there are only %llu descriptors for %llu clients", (unsigned long long)limit.rlim_cur,
              (unsigned long long)the_proxy.settings.max_clients);
 }
@@ -112,6 +112,7 @@ static bool run(void) {
 int main(int count, char **words) {
     static sigset_t signals;
     pthread_t waiter;
+    commands_start();
     if (!settings_read(&the_proxy.settings, count, words))
         return 2;
     signal(SIGPIPE, SIG_IGN);
@@ -119,7 +120,6 @@ int main(int count, char **words) {
     sigaddset(&signals, SIGTERM);
     sigaddset(&signals, SIGINT);
     pthread_sigmask(SIG_BLOCK, &signals, NULL);
-    commands_start();
     raise_limits();
     the_proxy.start = clock_now();
     for (unsigned at = 0; at < the_proxy.settings.threads; at++) {

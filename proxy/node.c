@@ -216,8 +216,10 @@ void node_settle(node *it) {
 void node_tick(node *it) {
     uint64_t limit = the_proxy.settings.timeout * MILLISECOND;
     bool owes = it->state == NODE_OPENING || it->state == NODE_LOGIN || (it->state == NODE_OPEN && it->count > 0);
-    if (it->is_private && it->state == NODE_OPEN && (it->count > 0 || it->client == NULL || it->client->is_subscribed))
-        return; /* it waits as long as its client does */
+    if (it->is_private && it->state == NODE_OPEN && it->client != NULL && (it->count > 0 || it->client->is_subscribed)) {
+        private_tick(it);
+        return;
+    }
     if (owes && it->lost == NULL && it->worker->now - it->heard > limit)
         node_doom(it, it->state == NODE_OPEN ? "silent for too long" : "no connection in time");
     if (owes && it->worker->now - it->heard > limit / 4)

@@ -28,7 +28,7 @@ void part_send(request *it, uint32_t at) {
     if (it->is_private)
         to = private_node(it->client, to);
     if (part->asking)
-        node_ask(to, asking, sizeof asking - 1, (waiter){.waits = WAITS_ASKING});
+        node_ask(to, asking, sizeof asking - 1, (waiter){.waits = WAITS_NOTHING});
     part->state = PART_SENT;
     it->in_flight++;
     figure_add(&worker->stats.counts[COUNT_PARTS], 1);

@@ -29,6 +29,20 @@ void private_drop(client *client) {
     client->is_subscribed = false;
 }
 
+/* The node says nothing on this connection for as long as its client waits. So it is asked on the shared one. */
+void private_tick(node *own) {
+    static const char ping[] = "*1\r\n$4\r\nPING\r\n";
+    worker *worker = own->worker;
+    node *shared = node_at(worker, own->host, own->port);
+    uint64_t pause = the_proxy.settings.timeout * MILLISECOND / 2;
+    if (shared == NULL)
+        return;
+    if (shared->is_failing && shared->failed > own->heard)
+        node_doom(own, "the node does not answer");
+    else if (shared->count == 0 && worker->now - shared->heard > pause)
+        node_ask(shared, ping, sizeof ping - 1, (waiter){.waits = WAITS_NOTHING});
+}
+
 void private_free(worker *worker) {
     while (worker->left != NULL) {
         node *left = worker->left;

@@ -10,6 +10,9 @@ node *private_node(client *client, const node *like);
 /* Gives up the client's own connection, if it has one. */
 void private_drop(client *client);
 
+/* Looks whether the node of an own connection is there, while a client waits for it. */
+void private_tick(node *own);
+
 /* Frees connections that were given up and are closed. */
 void private_free(worker *worker);
 

@@ -87,9 +87,9 @@ struct client {
     char name[64];
 };
 
-typedef enum waits { WAITS_PART, WAITS_QUEUED, WAITS_ASKING, WAITS_PASSWORD, WAITS_MAP } waits;
+typedef enum waits { WAITS_PART, WAITS_QUEUED, WAITS_NOTHING, WAITS_PASSWORD, WAITS_MAP } waits;
 
-/* Who waits for the next reply of a node. */
+/* Who waits for the next reply of a node. WAITS_NOTHING: the reply is dropped. */
 typedef struct waiter {
     request *request;
     uint64_t client_id; /* or the number of the map that was asked for */

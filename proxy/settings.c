@@ -1,11 +1,13 @@
 #include "settings.h"
 
+#include "commands.h"
+
 #include <errno.h>
 #include <stdio.h>
 #include <stdlib.h>
 #include <string.h>
 
-typedef enum kind { TEXT, NUMBER, SIZE, SWITCH, SEED } kind;
+typedef enum kind { TEXT, NUMBER, SIZE, SWITCH, SEED, NAME } kind;
 
 typedef struct row {
     const char *name, *says;
@@ -17,6 +19,7 @@ typedef struct row {
 #define AT(field) offsetof(settings, field)
 static const row rows[] = {
     {"node", "HOST:PORT of a node; may be given several times", SEED, 0, 0, 0},
+    {"take", "NAME of a module's command on one key; may be given several times", NAME, 0, 0, 0},
     {"listen", "ADDR:PORT for clients (127.0.0.1:6380)", TEXT, AT(listen), 0, 0},
     {"unix", "PATH of a socket for clients", TEXT, AT(unix_path), 0, 0},
     {"metrics", "ADDR:PORT of figures for Prometheus", TEXT, AT(metrics), 0, 0},
@@ -80,6 +83,8 @@ static const char *set(settings *settings, const row *row, const char *value) {
         settings->seeds[settings->seed_count++] = value;
         return NULL;
     }
+    if (row->kind == NAME)
+        return commands_take(value) ? NULL : "is no name, or is known";
     if (row->kind == TEXT) {
         memcpy(field, &value, sizeof value);
         return *value == 0 ? "is empty" : NULL;

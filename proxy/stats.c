@@ -31,10 +31,8 @@ static const row rows[COUNTERS] = {
 };
 
 void stats_took(stats *stats, uint64_t microseconds) {
-    size_t step = 0;
-    while (step < LATENCY_STEPS - 1 && microseconds >> step != 0)
-        step++;
-    figure_add(&stats->took[step], 1);
+    size_t step = microseconds == 0 ? 0 : 64 - (size_t)__builtin_clzll(microseconds);
+    figure_add(&stats->took[step < LATENCY_STEPS ? step : LATENCY_STEPS - 1], 1);
     figure_add(&stats->took_sum, microseconds);
 }
 
