@@ -137,12 +137,14 @@ static bool take(client *it, const uint8_t *bytes, size_t len) {
 
 /* Takes the requests that have come whole, as far as the client may be read. Returns how many bytes they have. */
 static size_t take_requests(client *it, const uint8_t *bytes, size_t len) {
-    size_t used = 0, end = 0;
+    size_t used = 0, end = 0, most = it->is_known ? the_proxy.settings.max_message : STRANGER;
     while (used < len && may_read(it)) {
         whole found = layer_request(bytes + used, len - used, &it->scan, &end);
-        bool is_long = (found == IS_WHOLE ? end : len - used) > (it->is_known ? the_proxy.settings.max_message : STRANGER);
+        bool is_long = (found == IS_WHOLE ? end : len - used) > most;
         if (found == IS_MALFORMED || is_long) {
-            request_refuse(it, is_long ? "Protocol error: the request is too long" : "Protocol error: malformed request");
+            char text[100];
+            snprintf(text, sizeof text, "Protocol error: a request of more than %llu bytes", (unsigned long long)most);
+            request_refuse(it, is_long ? text : "Protocol error: malformed request");
             client_end(it);
             return len;
         }
