@@ -5,12 +5,11 @@
 #include <stdlib.h>
 #include <string.h>
 
-enum { SMALLEST = 512, KEPT = 4096 }; /* bytes of a block, and those that an empty buffer may keep */
+enum { SMALLEST = 512, KEPT = 65536 }; /* bytes of a block, and those that an empty buffer may keep */
 
 _Thread_local size_t memory_used;
 
-void *memory_take(size_t size) {
-    void *block = calloc(1, size);
+static void *count(void *block, size_t size) {
     if (block == NULL) {
         fprintf(stderr, "out of memory: %zu bytes\n", size);
         abort();
@@ -18,6 +17,10 @@ void *memory_take(size_t size) {
     memory_used += size;
     return block;
 }
+
+void *memory_take(size_t size) { return count(calloc(1, size), size); }
+
+void *memory_take_raw(size_t size) { return count(malloc(size), size); }
 
 void memory_give(void *block, size_t size) {
     free(block);
@@ -37,7 +40,7 @@ uint8_t *buffer_room(buffer *it, size_t least) {
     buffer larger = {.room = SMALLEST};
     while (larger.room < 2 * len + least)
         larger.room *= 2;
-    larger.bytes = memory_take(larger.room);
+    larger.bytes = memory_take_raw(larger.room);
     if (len > 0)
         memcpy(larger.bytes, it->bytes + it->start, len);
     larger.end = len;

@@ -111,7 +111,7 @@ static bool take(client *it, const uint8_t *bytes, size_t len) {
     command_kind kind = command_of(bytes, len);
     words words = words_of(bytes, len);
     const char *refusal = command_refusal(kind);
-    bool is_taken = kind == COMMAND_TAKEN || kind == COMMAND_SCRIPT || kind == COMMAND_STREAM;
+    bool is_taken = kind == COMMAND_TAKEN || kind == COMMAND_SPLIT || kind == COMMAND_SCRIPT || kind == COMMAND_STREAM;
     bool is_about_subscriptions = kind == COMMAND_SUBSCRIPTION || (it->is_subscribed && kind == COMMAND_PING);
     if (words.left == 0)
         return true; /* a server does not answer a request of no words either */
@@ -240,4 +240,8 @@ void client_tick(client *it) {
         client_touch(it);
     if (it->own != NULL)
         node_tick(it->own);
+    if (it->worker->now - it->read_at > SECOND && buffer_len(&it->out) == 0)
+        buffer_free(&it->out); /* it is idle */
+    if (it->worker->now - it->read_at > SECOND && buffer_len(&it->in) == 0)
+        buffer_free(&it->in);
 }

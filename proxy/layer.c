@@ -2,7 +2,7 @@
 
 #include <string.h>
 
-enum { LONG_MESSAGE = 16384, FIRST_ROOM = 4096, MOST_PICKS = 16 };
+enum { LONG_MESSAGE = 16384, FIRST_ROOM = 4096, MOST_PICKS = 16, MOST_KEPT = 1 << 20 };
 
 typedef uint32_t (*length_of)(const uint8_t *, size_t, slotroute_told *);
 
@@ -11,6 +11,7 @@ static _Thread_local uint8_t *out;
 static _Thread_local uint16_t *slots;
 static _Thread_local size_t *ends;
 static _Thread_local size_t out_room, parts_room;
+static _Thread_local buffer replies_room;
 
 static void make_room(size_t bytes, size_t parts) {
     if (bytes > out_room) {
@@ -108,6 +109,11 @@ bool layer_split(const uint8_t *request, size_t len, split *split) {
     return answer == SLOTROUTE_DONE;
 }
 
+buffer *layer_replies(void) {
+    buffer_drop(&replies_room, buffer_len(&replies_room));
+    return &replies_room;
+}
+
 uint32_t layer_combine(const uint8_t *request, size_t len, uint32_t policy, size_t count,
                        const buffer *replies, buffer *into, size_t *at) {
     slotroute_told told = {.bytes = buffer_len(replies) + FIRST_ROOM};
@@ -177,10 +183,17 @@ void layer_message(uint32_t answer, char *text, size_t room) {
     text[len < room ? len : 0] = 0;
 }
 
+void layer_trim(void) {
+    if (out_room <= MOST_KEPT && parts_room <= MOST_KEPT / sizeof *ends)
+        return;
+    layer_end();
+}
+
 void layer_end(void) {
     memory_give(out, out_room);
     memory_give(slots, parts_room * sizeof *slots);
     memory_give(ends, parts_room * sizeof *ends);
+    buffer_free(&replies_room);
     out = NULL;
     slots = NULL;
     ends = NULL;

@@ -38,6 +38,9 @@ typedef struct split {
 
 bool layer_split(const uint8_t *request, size_t len, split *split);
 
+/* An empty buffer of this thread, into which replies are put one after the other. */
+buffer *layer_replies(void);
+
 /* Writes the one reply to a request by the replies to its parts, in their order. `policy` is 0 for a
  * request that was split, and else that of `layer_route` for one that went whole to `count` nodes.
  * Returns SLOTROUTE_DONE, or why there is none. Then `at` is the number of the reply at fault. */
@@ -61,7 +64,8 @@ bool layer_redirect(const uint8_t *error, size_t len, const char *answering, red
 /* Writes the text of an answer of the library. */
 void layer_message(uint32_t answer, char *text, size_t room);
 
-/* Gives back the memory of this thread. */
+/* Gives back what a long request took, and all memory of this thread. */
+void layer_trim(void);
 void layer_end(void);
 
 #endif

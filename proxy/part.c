@@ -68,7 +68,7 @@ void part_keep(part *part, const uint8_t *reply, size_t len) {
     part->reply = NULL;
     part->reply_len = len;
     if (len > SMALL_REPLY)
-        part->reply = memory_take(len);
+        part->reply = memory_take_raw(len);
     memcpy(part->reply != NULL ? part->reply : part->small, reply, len);
 }
 

@@ -52,7 +52,7 @@ struct request {
     uint32_t policy;
     bool is_split, is_script, is_private;
     uint32_t queued; /* the commands of a transaction, or 0 */
-    size_t len, sent_len;
+    size_t len, size; /* of the request, and of the block that it stands in */
     uint8_t *bytes, *sent; /* the request, and what its parts are pieces of */
     part *part, one;
 };

@@ -30,6 +30,8 @@ bool redirect_follow(request *request, uint32_t part, node *from, const uint8_t 
     worker *worker = from->worker;
     struct part *it = &request->part[part];
     redirect found;
+    if (begins(error, len, "-READONLY ")) /* a primary that has become a replica */
+        topology_want(worker);
     if (it->slot == NO_SLOT)
         return false;
     if (is_pause(request, error, len) && part_may_try(request, part)) {

@@ -18,12 +18,11 @@ void reply_write(request *it, buffer *out) {
     if (it->parts == 1 && it->policy == 0) {
         buffer_put(out, reply_of(&it->one), it->one.reply_len);
     } else {
-        buffer all = {0};
+        buffer *all = layer_replies();
         for (uint32_t part = 0; part < it->parts; part++)
-            buffer_put(&all, reply_of(&it->part[part]), it->part[part].reply_len);
-        uint32_t answer = layer_combine(it->bytes, it->len, it->policy, it->parts, &all, out, &at);
+            buffer_put(all, reply_of(&it->part[part]), it->part[part].reply_len);
+        uint32_t answer = layer_combine(it->bytes, it->len, it->policy, it->parts, all, out, &at);
         if (answer != SLOTROUTE_DONE)
             write_fault(it, answer, at, out);
-        buffer_free(&all);
     }
 }

@@ -5,18 +5,27 @@
 
 #include <string.h>
 
-/* A request at the end of a client's queue. Its parts are all in `bytes` at first. */
-static request *request_new(client *client, const uint8_t *bytes, size_t len, uint32_t parts) {
-    request *it = memory_take(sizeof *it + len);
+/* A request at the end of a client's queue. `sent` has what its parts are pieces of: the request, or its split.
+ * All of it is one block: the request, its parts, its bytes, and the bytes of the split. */
+static request *request_new(client *client, const uint8_t *bytes, size_t len, uint32_t parts, const split *split) {
+    size_t parts_size = parts > 1 ? parts * sizeof(part) : 0, split_len = split != NULL ? split->len : 0;
+    size_t size = sizeof(request) + parts_size + len + split_len;
+    request *it = memory_take_raw(size);
+    memset(it, 0, sizeof *it + parts_size);
+    it->size = size;
     it->client = client;
     it->client_id = client->id;
     it->start = client->worker->now;
-    it->len = it->sent_len = len;
-    it->bytes = it->sent = (uint8_t *)(it + 1);
+    it->len = len;
+    it->part = parts > 1 ? (part *)(void *)(it + 1) : &it->one;
+    it->parts = it->left = parts;
+    it->bytes = it->sent = (uint8_t *)(it + 1) + parts_size;
     if (len > 0)
         memcpy(it->bytes, bytes, len);
-    it->part = parts > 1 ? memory_take(parts * sizeof *it->part) : &it->one;
-    it->parts = it->left = parts;
+    if (split != NULL) {
+        it->sent = it->bytes + len;
+        memcpy(it->sent, split->bytes, split->len);
+    }
     if (client->last != NULL)
         client->last->next = it;
     else
@@ -31,11 +40,7 @@ void request_free(request *it) {
     for (uint32_t at = 0; at < it->parts; at++)
         if (it->part[at].reply != NULL)
             memory_give(it->part[at].reply, it->part[at].reply_len);
-    if (it->part != &it->one)
-        memory_give(it->part, it->parts * sizeof *it->part);
-    if (it->sent != it->bytes)
-        memory_give(it->sent, it->sent_len);
-    memory_give(it, sizeof *it + it->len);
+    memory_give(it, it->size);
 }
 
 static void part_begin(request *it, uint32_t at) {
@@ -48,7 +53,7 @@ static void part_begin(request *it, uint32_t at) {
 }
 
 static void begin_one(client *client, const uint8_t *bytes, size_t len, uint16_t slot, command_kind kind) {
-    request *it = request_new(client, bytes, len, 1);
+    request *it = request_new(client, bytes, len, 1, NULL);
     it->is_script = kind == COMMAND_SCRIPT;
     it->is_private = client->is_alone = kind == COMMAND_BLOCKING;
     it->one = (part){.end = len, .slot = slot};
@@ -56,29 +61,27 @@ static void begin_one(client *client, const uint8_t *bytes, size_t len, uint16_t
 }
 
 void request_begin_transaction(client *client, const uint8_t *bytes, size_t len, uint16_t slot, uint32_t queued) {
-    request *it = request_new(client, bytes, len, 1);
+    request *it = request_new(client, bytes, len, 1, NULL);
     it->is_script = true; /* as after a script, an error of EXEC itself may follow effects */
     it->queued = queued;
     it->one = (part){.end = len, .slot = slot};
     part_begin(it, 0);
 }
 
-static void begin_split(client *client, const uint8_t *bytes, size_t len) {
+/* Sends the parts of a request that the library splits. False if it does not. */
+static bool begin_split(client *client, const uint8_t *bytes, size_t len) {
     split split;
-    if (!layer_split(bytes, len, &split)) {
-        request_refuse(client, "the proxy cannot split this request");
-        return;
-    }
-    request *it = request_new(client, bytes, len, (uint32_t)split.parts);
-    it->is_split = true;
-    it->sent_len = split.len;
-    it->sent = memory_take(split.len);
-    memcpy(it->sent, split.bytes, split.len);
+    if (!layer_split(bytes, len, &split))
+        return false;
+    request *it = request_new(client, bytes, len, (uint32_t)split.parts, &split);
+    it->is_split = split.parts > 1;
     for (uint32_t at = 0; at < it->parts; at++)
         it->part[at] = (part){.start = at == 0 ? 0 : split.ends[at - 1], .end = split.ends[at], .slot = split.slots[at]};
-    figure_add(&client->worker->stats.counts[COUNT_SPLIT], 1);
+    if (it->is_split)
+        figure_add(&client->worker->stats.counts[COUNT_SPLIT], 1);
     for (uint32_t at = 0; at < it->parts; at++)
         part_begin(it, at);
+    return true;
 }
 
 /* Sends a request whole to many nodes. The client's next request waits for it. */
@@ -91,7 +94,7 @@ static void begin_many(client *client, const uint8_t *bytes, size_t len, node **
         request_refuse(client, "the proxy has no map of the cluster");
         return;
     }
-    request *it = request_new(client, bytes, len, (uint32_t)count);
+    request *it = request_new(client, bytes, len, (uint32_t)count, NULL);
     it->policy = policy;
     client->is_alone = true;
     for (uint32_t at = 0; at < it->parts; at++)
@@ -103,6 +106,8 @@ static void begin_many(client *client, const uint8_t *bytes, size_t len, node **
 bool request_begin(client *client, const uint8_t *bytes, size_t len, command_kind kind) {
     topology *map = &client->worker->map;
     slotroute_routed to;
+    if (kind == COMMAND_SPLIT && begin_split(client, bytes, len))
+        return true;
     if (!layer_route(bytes, len, &to)) {
         request_refuse(client, "the proxy cannot read this request");
         return true;
@@ -112,8 +117,6 @@ bool request_begin(client *client, const uint8_t *bytes, size_t len, command_kin
         return false;
     if (to.kind == SLOTROUTE_TO_SLOT)
         begin_one(client, bytes, len, (uint16_t)to.slot, kind);
-    else if (to.kind == SLOTROUTE_TO_SLOTS)
-        begin_split(client, bytes, len);
     else if (to.kind == SLOTROUTE_TO_ALL)
         begin_many(client, bytes, len, map->all, map->all_count, to.policy);
     else if (to.kind == SLOTROUTE_TO_ALL_PRIMARIES)
@@ -133,7 +136,7 @@ void request_answer_own(client *client, const char *text, size_t len) {
         client_touch(client);
         return;
     }
-    request *it = request_new(client, NULL, 0, 1);
+    request *it = request_new(client, NULL, 0, 1, NULL);
     it->one.state = PART_DONE;
     it->one.slot = NO_SLOT;
     it->left = 0;

@@ -148,6 +148,7 @@ static void tick(worker *it) {
     if (it->now < next_slow)
         return;
     next_slow = it->now + IDLE_TICK;
+    layer_trim();
     for (client *at = it->clients; at != NULL; at = at->next)
         client_tick(at);
     if (it->number == 0)
