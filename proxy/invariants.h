@@ -3,7 +3,8 @@
  * Of each connection to a node:
  *   1. Its queue has one waiter for each reply that was asked for and has not come, in the order in which
  *      the requests stand in the stream.
- *   2. A reply goes to the first waiter. A reply without a waiter closes the connection.
+ *   2. A reply goes to the first waiter. A reply without a waiter, or to a request that was not written to
+ *      its end, closes the connection.
  *   3. If the connection is closed, its queue is empty: each waiter was given an error, or is to be sent
  *      again because none of its bytes had been written.
  *

@@ -108,6 +108,12 @@ static void deliver(node *it, const uint8_t *reply, size_t len) {
     }
 }
 
+/* Whether the request of the first waiter was written to its end. */
+static bool was_written(const node *it) {
+    uint64_t end = it->count > 1 ? it->queue[(it->first + 1) % it->room].offset : it->given;
+    return it->sent >= end;
+}
+
 /* Takes the replies that have come whole, and returns how many bytes they have. */
 static size_t take_replies(node *it, const uint8_t *bytes, size_t len) {
     size_t used = 0, end = 0;
@@ -124,7 +130,7 @@ static size_t take_replies(node *it, const uint8_t *bytes, size_t len) {
             used += end;
             continue;
         }
-        if (it->count == 0) {
+        if (it->count == 0 || !was_written(it)) {
             figure_add(&it->worker->stats.counts[COUNT_STRAY], 1);
             warn("node %s:%u: a reply that nobody waits for", it->host, it->port);
             node_doom(it, "a reply that nobody waits for");
