@@ -35,6 +35,7 @@ node *node_at(worker *worker, const char *host, uint16_t port) {
         return NULL;
     node *it = node_new(worker, host, port);
     it->is_private = false;
+    it->number = (uint16_t)worker->node_count;
     worker->nodes[worker->node_count++] = it;
     return it;
 }

@@ -115,7 +115,7 @@ static bool give_up(client *client, place at) {
     part *part = part_at(at);
     worker *worker = client->worker;
     uint64_t retry = the_proxy.settings.retry * MILLISECOND, timeout = the_proxy.settings.timeout * MILLISECOND;
-    bool has_node = part->slot == NO_SLOT ? worker->map.primary_count > 0 : worker->map.owner[part->slot] != NULL;
+    bool has_node = part->slot == NO_SLOT ? worker->map.primary_count > 0 : topology_owner(worker, part->slot) != NULL;
     if (part->state == PART_AGAIN && !has_node && part->to == NULL && worker->now - at.request->start > retry)
         part_fail(at.request, at.part, "CLUSTERDOWN Hash slot not served");
     else if (worker->now - at.request->start > 2 * (retry + timeout))

@@ -18,7 +18,7 @@ void part_send(request *it, uint32_t at) {
     worker *worker = it->client->worker;
     node *to = part->to != NULL      ? part->to
                : part->slot == NO_SLOT ? topology_any(worker)
-                                       : worker->map.owner[part->slot];
+                                       : topology_owner(worker, part->slot);
     if (to == NULL) {
         topology_want(worker);
         part->due = worker->now + LONGER_PAUSE;

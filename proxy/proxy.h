@@ -104,7 +104,7 @@ struct node {
     peer peer;
     worker *worker;
     char host[HOST_ROOM];
-    uint16_t port;
+    uint16_t port, number; /* number: its place in `nodes` of its thread */
     node_state state;
     buffer in, out;
     scan scan;
@@ -123,7 +123,7 @@ struct node {
 
 /* Where slots are. */
 typedef struct topology {
-    node *owner[SLOTROUTE_SLOTS];
+    uint16_t owner[SLOTROUTE_SLOTS]; /* the number of its node, or SLOTROUTE_NO_NODE */
     uint64_t moving[SLOTROUTE_SLOTS]; /* until when the commands of a client on a slot go one after the other */
     uint64_t moving_until;            /* the latest of these */
     node *primaries[MOST_NODES], *all[MOST_NODES];

@@ -11,6 +11,11 @@ enum { SOONEST = 100 * MILLISECOND, LATER = 250 * MILLISECOND, PATIENCE = SECOND
 
 static const char question[] = "*2\r\n$7\r\nCLUSTER\r\n$5\r\nSLOTS\r\n";
 
+node *topology_owner(const worker *worker, uint16_t slot) {
+    uint16_t number = worker->map.owner[slot];
+    return number == SLOTROUTE_NO_NODE ? NULL : worker->nodes[number];
+}
+
 void topology_want(worker *worker) { worker->map.is_wanted = true; }
 
 void topology_slows(worker *worker, uint16_t slot) {
@@ -24,7 +29,7 @@ bool topology_is_slow(const worker *worker, uint16_t slot) {
 }
 
 void topology_moved(worker *worker, uint16_t slot, node *to) {
-    worker->map.owner[slot] = to;
+    worker->map.owner[slot] = to->number;
     topology_slows(worker, slot);
     topology_want(worker);
 }
@@ -76,10 +81,11 @@ static void take_owners(worker *worker, const uint16_t *numbers, node **nodes, s
     map->slots = 0;
     for (size_t slot = 0; slot < SLOTROUTE_SLOTS; slot++) {
         node *owner = numbers[slot] < count ? nodes[numbers[slot]] : NULL;
+        uint16_t number = owner != NULL ? owner->number : (uint16_t)SLOTROUTE_NO_NODE;
         map->slots += owner != NULL;
-        if (owner != map->owner[slot] && map->has_map)
+        if (number != map->owner[slot] && map->has_map)
             topology_slows(worker, (uint16_t)slot);
-        map->owner[slot] = owner;
+        map->owner[slot] = number;
     }
 }
 

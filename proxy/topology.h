@@ -4,6 +4,9 @@
 
 #include "proxy.h"
 
+/* The node of a slot, or NULL. */
+node *topology_owner(const worker *worker, uint16_t slot);
+
 /* Has the map read anew, soon. */
 void topology_want(worker *worker);
 void topology_tick(worker *worker);

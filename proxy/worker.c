@@ -38,6 +38,7 @@ worker *worker_new(unsigned number) {
         address_split(the_proxy.settings.seeds[at], host, &port);
         node_at(it, host, port);
     }
+    memset(it->map.owner, 0xff, sizeof it->map.owner); /* SLOTROUTE_NO_NODE */
     topology_want(it);
     return it;
 }
