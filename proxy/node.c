@@ -109,8 +109,10 @@ static void deliver(node *it, const uint8_t *reply, size_t len) {
     }
 }
 
-/* Whether the request of the first waiter was written to its end. */
+/* Whether the request of the first waiter was written to its end. A password is written before all else. */
 static bool was_written(const node *it) {
+    if (it->queue[it->first].waits == WAITS_PASSWORD)
+        return true;
     uint64_t end = it->count > 1 ? it->queue[(it->first + 1) % it->room].offset : it->given;
     return it->sent >= end;
 }
