@@ -224,9 +224,8 @@ void client_settle(client *it) {
     it->is_paused = may_be_paused(it);
     bool reads = !it->has_ended && (it->is_ending || may_read(it)) && !it->is_paused;
     bool writes = buffer_len(&it->out) > 0;
-    /* EPOLLPRI keeps the descriptor watched, for an error or the end of both directions */
     bool waits = it->first != NULL && it->first->is_private;
-    peer_watch(it->worker, &it->peer, (reads ? EPOLLIN : 0u) | (writes ? EPOLLOUT : 0u) | (waits ? EPOLLRDHUP : 0u) | EPOLLPRI);
+    peer_watch(it->worker, &it->peer, (reads ? EPOLLIN : 0u) | (writes ? EPOLLOUT : 0u) | (waits ? EPOLLRDHUP : 0u));
     client_check(it);
 }
 

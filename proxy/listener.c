@@ -24,9 +24,7 @@ typedef struct reader {
 static reader readers[READERS];
 
 static bool open_one(worker *worker, peer *peer, peer_kind kind, int fd) {
-    peer->kind = kind;
-    peer->fd = fd;
-    peer->events = 0;
+    *peer = (struct peer){.kind = kind, .fd = fd};
     if (fd < 0)
         return false;
     peer_watch(worker, peer, EPOLLIN);
@@ -112,7 +110,7 @@ void listener_event(worker *worker, peer *peer) {
         if (fd < 0 && (errno == EMFILE || errno == ENFILE)) {
             warn("no descriptor for a new client: %s", strerror(errno));
             pause_until = worker->now + SECOND;
-            peer_watch(worker, peer, EPOLLPRI);
+            peer_watch(worker, peer, 0);
         }
         if (fd < 0)
             return;

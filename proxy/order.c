@@ -90,7 +90,7 @@ static bool step(client *client, uint16_t slot) {
     later later = slot == NO_SLOT ? (struct later){false, false} : later_of(first, slot);
     if (later.is_done) {
         part_fail(first.request, first.part,
-                  "TRYAGAIN the slot is being moved, and a later command on it took effect; this one did not");
+                  "TRYAGAIN the slot is being moved, and a later command on it took effect before this one could");
         return true;
     }
     if (!later.is_sent && client->worker->now >= part_at(first)->due)
@@ -119,7 +119,9 @@ static bool give_up(client *client, place at) {
     if (part->state == PART_AGAIN && !has_node && part->to == NULL && worker->now - at.request->start > retry)
         part_fail(at.request, at.part, "CLUSTERDOWN Hash slot not served");
     else if (worker->now - at.request->start > 2 * (retry + timeout))
-        part_fail(at.request, at.part, "ERR the command waited for too long, and did not take effect");
+        part_fail(at.request, at.part,
+                  at.request->is_split ? "ERR a part of the command waited for too long, and did not take effect"
+                                       : "ERR the command waited for too long, and did not take effect");
     else
         return false;
     return true;

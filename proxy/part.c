@@ -143,7 +143,8 @@ void part_lost(request *it, uint32_t at, node *lost_at, bool was_sent) {
     }
     if (was_sent)
         figure_add(&worker->stats.counts[COUNT_UNKNOWN_END], 1);
-    snprintf(text, sizeof text, "ERR node %s:%u: %s; the command %s", lost_at->host, lost_at->port, lost_at->why,
+    snprintf(text, sizeof text, "ERR node %s:%u: %s; %s %s", lost_at->host, lost_at->port, lost_at->why,
+             it->parts > 1 ? "its part of the command" : "the command",
              was_sent ? "may have taken effect" : "did not take effect");
     uint16_t slot = part->slot;
     part_fail(it, at, text);

@@ -17,20 +17,24 @@ enum { BACKLOG = 1024 };
 
 void peer_watch(worker *worker, peer *peer, uint32_t events) {
     struct epoll_event event = {.events = events, .data.ptr = peer};
-    if (peer->events == events)
+    if (peer->is_watched && peer->events == events)
         return;
-    int change = peer->events == 0 ? EPOLL_CTL_ADD : EPOLL_CTL_MOD;
+    int change = peer->is_watched ? EPOLL_CTL_MOD : EPOLL_CTL_ADD;
     if (epoll_ctl(worker->poll, change, peer->fd, &event) != 0)
         warn("epoll: %s", strerror(errno));
     peer->events = events;
+    peer->is_watched = true;
 }
 
 void peer_set_up(int fd) {
-    int one = 1;
+    int one = 1, idle = 60, pause = 10, tries = 3; /* seconds until a connection without its other side ends */
     fcntl(fd, F_SETFL, O_NONBLOCK);
     fcntl(fd, F_SETFD, FD_CLOEXEC);
     setsockopt(fd, IPPROTO_TCP, TCP_NODELAY, &one, sizeof one);
     setsockopt(fd, SOL_SOCKET, SO_KEEPALIVE, &one, sizeof one);
+    setsockopt(fd, IPPROTO_TCP, TCP_KEEPIDLE, &idle, sizeof idle);
+    setsockopt(fd, IPPROTO_TCP, TCP_KEEPINTVL, &pause, sizeof pause);
+    setsockopt(fd, IPPROTO_TCP, TCP_KEEPCNT, &tries, sizeof tries);
 }
 
 arrived peer_read(worker *worker, const peer *peer, buffer *in) {

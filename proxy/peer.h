@@ -4,7 +4,7 @@
 
 #include "proxy.h"
 
-/* Has epoll watch a peer for these events, or no longer if there are none. */
+/* Has epoll watch a peer for these events, and for errors. */
 void peer_watch(worker *worker, peer *peer, uint32_t events);
 
 /* Sets what each connection has: no waits at reads, writes and for small packets. */

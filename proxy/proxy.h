@@ -24,6 +24,7 @@ typedef struct peer {
     peer_kind kind;
     int fd;
     uint32_t events;
+    bool is_watched;
 } peer;
 
 /* Where a part of a request is. HELD: it was not sent yet. AGAIN: it was sent, and took no effect. */
@@ -145,6 +146,7 @@ struct worker {
     node *dirty_nodes, *left; /* left: given up by the clients that had them alone */
     bool is_draining, is_pressed;
     uint64_t drain_until, pressed_at;
+    size_t base; /* the memory that the thread takes without clients */
     stats stats;
     uint8_t *read; /* room for what is read */
 };

@@ -95,13 +95,13 @@ static void close_largest(worker *it) {
         largest = bytes > most ? at : largest;
         most = bytes > most ? bytes : most;
     }
-    if (largest != NULL)
+    if (most > READ_ROOM)
         client_doom(largest, "all clients together take too much memory, and it takes the most");
 }
 
 /* Clients wait while all of the thread take too much memory. If that does not help, the largest has to go. */
 static void watch_memory(worker *it) {
-    uint64_t limit = the_proxy.settings.memory / the_proxy.settings.threads;
+    uint64_t limit = it->base + the_proxy.settings.memory / the_proxy.settings.threads;
     bool was_pressed = it->is_pressed;
     it->is_pressed = memory_used > limit;
     if (it->is_pressed && !was_pressed)
@@ -174,6 +174,7 @@ void worker_round(worker *it) {
 
 void *worker_run(void *given) {
     worker *it = given;
+    it->base = memory_used;
     while (!it->is_draining || (it->clients != NULL && it->now < it->drain_until && atomic_load(&the_proxy.draining) < 2))
         worker_round(it);
     layer_end();
