@@ -1,0 +1,246 @@
+#include "client.h"
+
+#include "commands.h"
+#include "invariants.h"
+#include "node.h"
+#include "peer.h"
+#include "private.h"
+#include "request.h"
+#include "transaction.h"
+
+#include <errno.h>
+#include <stdio.h>
+#include <string.h>
+#include <sys/epoll.h>
+#include <sys/socket.h>
+#include <unistd.h>
+
+/* The time that a client has to close after the proxy has, also while that is drained. */
+enum { GOODBYE = 2 * SECOND, SHORT_GOODBYE = 500 * MILLISECOND };
+enum { STRANGER = 16384 }; /* bytes of a request at most, before the password */
+
+void client_begin(worker *worker, int fd) {
+    client *it = memory_take(sizeof *it);
+    it->peer = (peer){.kind = PEER_CLIENT, .fd = fd};
+    it->worker = worker;
+    it->id = atomic_fetch_add(&the_proxy.next_id, 1) + 1;
+    it->read_at = worker->now;
+    it->is_known = the_proxy.settings.password == NULL;
+    it->next = worker->clients;
+    if (it->next != NULL)
+        it->next->previous = it;
+    worker->clients = it;
+    peer_set_up(fd);
+    peer_watch(worker, &it->peer, EPOLLIN);
+    if (worker->is_draining)
+        client_end(it);
+    figure_add(&worker->stats.counts[COUNT_CLIENTS_TAKEN], 1);
+    figure_add(&worker->stats.counts[COUNT_CLIENTS_NOW], 1);
+}
+
+void client_touch(client *it) {
+    if (it->is_dirty)
+        return;
+    it->is_dirty = true;
+    it->next_dirty = it->worker->dirty_clients;
+    it->worker->dirty_clients = it;
+}
+
+void client_doom(client *it, const char *why) {
+    it->doom = why;
+    client_touch(it);
+}
+
+void client_end(client *it) {
+    it->is_ending = true;
+    client_touch(it);
+}
+
+/* Closes the connection. The client itself is freed at the end of the round: an event may still name it. */
+static void client_close(client *it) {
+    worker *worker = it->worker;
+    if (it->doom[0] != 0)
+        say("client %llu: %s", (unsigned long long)it->id, it->doom);
+    requests_disown(it);
+    transaction_drop(it);
+    private_drop(it);
+    buffer_free(&it->in);
+    buffer_free(&it->out);
+    close(it->peer.fd);
+    it->peer.fd = -1;
+    if (it->next != NULL)
+        it->next->previous = it->previous;
+    if (it->previous != NULL)
+        it->previous->next = it->next;
+    else
+        worker->clients = it->next;
+    it->next_dead = worker->dead;
+    worker->dead = it;
+    figure_add(&worker->stats.counts[COUNT_CLIENTS_NOW], (uint64_t)-1);
+    atomic_fetch_sub(&the_proxy.clients, 1);
+}
+
+void client_free(client *it) {
+    client **link = &it->worker->troubled;
+    while (it->is_troubled && *link != NULL && *link != it)
+        link = &(*link)->next_troubled;
+    if (it->is_troubled && *link == it)
+        *link = it->next_troubled;
+    memory_give(it, sizeof *it);
+}
+
+/* Whether another request may be read: the client takes its replies, and not too much is on the way. */
+static bool may_read(const client *it) {
+    return !it->is_ending && !it->is_alone && it->doom == NULL && it->queued < MOST_QUEUED &&
+           buffer_len(&it->out) + it->queued * it->reply_len < MOST_UNREAD && it->queued_bytes < the_proxy.settings.client_memory / 4;
+}
+
+/* Refuses a command, with its name. */
+static void refuse(client *it, words words, const char *why) {
+    char text[200], name[32] = "";
+    word first = {"", 0};
+    words_next(&words, &first);
+    for (size_t at = 0; at < first.len && at + 1 < sizeof name; at++)
+        name[at] = (char)(first.text[at] > ' ' && first.text[at] <= '~' ? first.text[at] : '?');
+    snprintf(text, sizeof text, "the proxy does not take '%s': %s", name, why);
+    request_refuse(it, text);
+}
+
+/* Takes one whole request. False if it has to wait for the earlier ones. */
+static bool take(client *it, const uint8_t *bytes, size_t len) {
+    command_kind kind = command_of(bytes, len);
+    words words = words_of(bytes, len);
+    const char *refusal = command_refusal(kind);
+    bool is_taken = kind == COMMAND_TAKEN || kind == COMMAND_SPLIT || kind == COMMAND_SCRIPT || kind == COMMAND_STREAM;
+    bool is_about_subscriptions = kind == COMMAND_SUBSCRIPTION || (it->is_subscribed && kind == COMMAND_PING);
+    if (words.left == 0)
+        return true; /* a server does not answer a request of no words either */
+    if (!it->is_known && kind != COMMAND_AUTH && kind != COMMAND_HELLO && kind != COMMAND_QUIT)
+        request_answer_own(it, "-NOAUTH Authentication required.\r\n", 34);
+    else if (it->is_subscribed && !is_about_subscriptions && kind != COMMAND_QUIT && kind != COMMAND_RESET)
+        request_refuse(it, "only (P)SUBSCRIBE, (P)UNSUBSCRIBE, PING, QUIT and RESET are allowed in this context");
+    else if (kind == COMMAND_TRANSACTION)
+        transaction_command(it, bytes, len);
+    else if (it->is_multi && kind != COMMAND_QUIT && kind != COMMAND_RESET)
+        transaction_queue(it, bytes, len, is_taken);
+    else if (is_about_subscriptions)
+        return subscription_begin(it, bytes, len);
+    else if (refusal != NULL)
+        refuse(it, words, refusal);
+    else if (!is_taken && kind != COMMAND_BLOCKING)
+        own_answer(it, kind, bytes, len);
+    else if (!request_begin(it, bytes, len, kind))
+        return false;
+    figure_add(&it->worker->stats.counts[COUNT_COMMANDS], 1);
+    return true;
+}
+
+/* Takes the requests that have come whole, as far as the client may be read. Returns how many bytes they have. */
+static size_t take_requests(client *it, const uint8_t *bytes, size_t len) {
+    size_t used = 0, end = 0, most = it->is_known ? the_proxy.settings.max_message : STRANGER;
+    while (used < len && may_read(it)) {
+        whole found = layer_request(bytes + used, len - used, &it->scan, &end);
+        bool is_long = (found == IS_WHOLE ? end : len - used) > most;
+        if (found == IS_MALFORMED || is_long) {
+            char text[100];
+            snprintf(text, sizeof text, "Protocol error: a request of more than %llu bytes", (unsigned long long)most);
+            request_refuse(it, is_long ? text : "Protocol error: malformed request");
+            client_end(it);
+            return len;
+        }
+        if (found == IS_PIECE || !take(it, bytes + used, end))
+            break;
+        used += end;
+    }
+    return it->is_ending ? len : used;
+}
+
+static bool may_be_paused(const client *it) { return it->worker->is_pressed && (it->queued > 0 || buffer_len(&it->in) > 0); }
+
+void client_event(client *it, uint32_t events) {
+    if (it->peer.fd < 0)
+        return;
+    client_touch(it);
+    bool has_left = (events & EPOLLRDHUP) != 0 && it->first != NULL && it->first->is_private;
+    if (has_left || (events & EPOLLERR) != 0 || ((events & EPOLLHUP) != 0 && (events & EPOLLIN) == 0)) {
+        client_doom(it, "");
+        return;
+    }
+    if ((events & EPOLLIN) == 0 || may_be_paused(it))
+        return;
+    arrived found = peer_read(it->worker, &it->peer, &it->in);
+    if (found.is_broken) {
+        client_doom(it, "");
+        return;
+    }
+    figure_add(&it->worker->stats.counts[COUNT_BYTES_IN], found.fresh);
+    it->has_ended |= found.is_end;
+    if (it->is_ending) { /* what comes now is not read */
+        buffer_drop(&it->in, buffer_len(&it->in));
+        return;
+    }
+    peer_keep(&found, &it->in, take_requests(it, found.bytes, found.len));
+}
+
+/* Writes replies. */
+static void write_replies(client *it) {
+    size_t unread = buffer_len(&it->out);
+    int64_t written = unread == 0 ? 0 : peer_write(&it->peer, &it->out);
+    if (written < 0)
+        client_doom(it, "");
+    else
+        figure_add(&it->worker->stats.counts[COUNT_BYTES_OUT], (uint64_t)written);
+    if (unread == 0 || written > 0)
+        it->read_at = it->worker->now;
+    if (buffer_len(&it->out) > the_proxy.settings.client_memory)
+        client_doom(it, "it does not read its replies, which take too much memory");
+}
+
+/* Closes a client that has nothing more to come, in two steps: it has to see the end of its replies. */
+static void finish(client *it) {
+    if (it->has_ended) {
+        client_doom(it, "");
+    } else if (it->is_ending && !it->is_shut) {
+        it->is_shut = true;
+        it->end_at = it->worker->now + (it->worker->is_draining ? SHORT_GOODBYE : GOODBYE);
+        shutdown(it->peer.fd, SHUT_WR);
+    }
+}
+
+void client_settle(client *it) {
+    if (it->peer.fd < 0)
+        return;
+    write_replies(it);
+    if (buffer_len(&it->in) > 0 && may_read(it))
+        buffer_drop(&it->in, take_requests(it, buffer_at(&it->in), buffer_len(&it->in)));
+    bool is_waiting = it->has_ended && buffer_len(&it->in) > 0 && !may_read(it);
+    if (it->first == NULL && buffer_len(&it->out) == 0 && !is_waiting)
+        finish(it);
+    it->is_dirty = false;
+    if (it->doom != NULL) {
+        client_close(it);
+        return;
+    }
+    it->is_paused = may_be_paused(it);
+    bool reads = !it->has_ended && (it->is_ending || may_read(it)) && !it->is_paused;
+    bool writes = buffer_len(&it->out) > 0;
+    bool waits = it->first != NULL && it->first->is_private;
+    peer_watch(it->worker, &it->peer, (reads ? EPOLLIN : 0u) | (writes ? EPOLLOUT : 0u) | (waits ? EPOLLRDHUP : 0u));
+    client_check(it);
+}
+
+void client_tick(client *it) {
+    uint64_t limit = the_proxy.settings.client_timeout * MILLISECOND;
+    if (buffer_len(&it->out) > 0 && it->worker->now - it->read_at > limit)
+        client_doom(it, "it leaves its replies unread");
+    if (it->is_shut && it->worker->now > it->end_at)
+        client_doom(it, "");
+    if (it->is_paused && !it->worker->is_pressed)
+        client_touch(it);
+    if (it->own != NULL)
+        node_tick(it->own);
+    if (it->worker->now - it->read_at > SECOND && buffer_len(&it->out) == 0)
+        buffer_free(&it->out); /* it is idle */
+    if (it->worker->now - it->read_at > SECOND && buffer_len(&it->in) == 0)
+        buffer_free(&it->in);
+}

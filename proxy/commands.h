@@ -1,0 +1,65 @@
+/* Which commands the proxy takes, and what becomes of each. */
+#ifndef PROXY_COMMANDS_H
+#define PROXY_COMMANDS_H
+
+#include <stdbool.h>
+#include <stddef.h>
+#include <stdint.h>
+
+/* Nodes answer a TAKEN command once and at once, and it leaves the connection, which many clients
+ * share, as it was. A SPLIT is such a command that the library splits by slot. A SCRIPT is such a command that runs code: an error of it may follow effects. A
+ * STREAM is one unless it has the word BLOCK. BLOCKING ones and SUBSCRIPTIONs go over a connection of
+ * the client's own. The proxy answers those from PING on. */
+typedef enum command_kind {
+    COMMAND_UNKNOWN,
+    COMMAND_TAKEN,
+    COMMAND_SPLIT,
+    COMMAND_SCRIPT,
+    COMMAND_STREAM,
+    COMMAND_TRANSACTION,
+    COMMAND_SUBSCRIPTION,
+    COMMAND_MONITOR,
+    COMMAND_BLOCKING,
+    COMMAND_WAIT,
+    COMMAND_CURSOR,
+    COMMAND_ADMIN,
+    COMMAND_PING,
+    COMMAND_ECHO,
+    COMMAND_QUIT,
+    COMMAND_SELECT,
+    COMMAND_AUTH,
+    COMMAND_HELLO,
+    COMMAND_CLIENT,
+    COMMAND_INFO,
+    COMMAND_RESET,
+} command_kind;
+
+/* A word of a request. */
+typedef struct word {
+    const char *text;
+    size_t len;
+} word;
+
+/* Steps over the words of a whole request, which the library has found well-formed. */
+typedef struct words {
+    const char *at, *end;
+    uint64_t left;
+} words;
+
+words words_of(const uint8_t *request, size_t len);
+bool words_next(words *words, word *word);
+bool word_is(word word, const char *text); /* in any case */
+
+/* Fills the table of names, before threads start. */
+void commands_start(void);
+
+/* Has another name taken, whose key is its first argument. False if it is none or is known. */
+bool commands_take(const char *name);
+
+/* What a request is, by its first words. */
+command_kind command_of(const uint8_t *request, size_t len);
+
+/* Why a command of this kind is refused, or NULL if it is not. */
+const char *command_refusal(command_kind kind);
+
+#endif

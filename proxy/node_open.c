@@ -1,0 +1,73 @@
+#include "node.h"
+
+#include "peer.h"
+
+#include <errno.h>
+#include <netdb.h>
+#include <stdio.h>
+#include <string.h>
+#include <sys/epoll.h>
+#include <sys/socket.h>
+
+void node_open(node *it) {
+    char port[8];
+    struct addrinfo hints = {.ai_socktype = SOCK_STREAM, .ai_flags = AI_NUMERICSERV}, *found = NULL;
+    snprintf(port, sizeof port, "%u", it->port);
+    it->state = NODE_OPENING;
+    it->heard = it->worker->now;
+    int fault = getaddrinfo(it->host, port, &hints, &found);
+    if (fault != 0) {
+        node_doom(it, gai_strerror(fault));
+        return;
+    }
+    it->peer.fd = socket(found->ai_family, SOCK_STREAM | SOCK_NONBLOCK | SOCK_CLOEXEC, 0);
+    if (it->peer.fd >= 0)
+        peer_set_up(it->peer.fd);
+    if (it->peer.fd < 0 || (connect(it->peer.fd, found->ai_addr, found->ai_addrlen) != 0 && errno != EINPROGRESS))
+        node_doom(it, strerror(errno));
+    else
+        peer_watch(it->worker, &it->peer, EPOLLIN | EPOLLOUT);
+    freeaddrinfo(found);
+}
+
+/* Sends the password. Nothing else is sent before its reply. */
+static void log_in(node *it) {
+    const settings *set = &the_proxy.settings;
+    buffer words = {0};
+    buffer_print(&words, set->node_user != NULL ? "*3\r\n$4\r\nAUTH\r\n$%zu\r\n%s\r\n" : "*2\r\n$4\r\nAUTH\r\n",
+                 set->node_user != NULL ? strlen(set->node_user) : 0, set->node_user);
+    buffer_print(&words, "$%zu\r\n%s\r\n", strlen(set->node_password), set->node_password);
+    node_make_room(it);
+    it->first = (it->first + it->room - 1) % it->room;
+    it->queue[it->first] = (waiter){.waits = WAITS_PASSWORD};
+    it->count++;
+    it->asked++;
+    it->state = NODE_LOGIN;
+    if (send(it->peer.fd, buffer_at(&words), buffer_len(&words), MSG_NOSIGNAL) != (ssize_t)buffer_len(&words))
+        node_doom(it, "the password could not be sent");
+    buffer_free(&words);
+}
+
+void node_become_open(node *it) {
+    it->state = NODE_OPEN;
+    it->heard = it->worker->now;
+    figure_add(&it->worker->stats.counts[COUNT_NODES_OPENED], 1);
+    if (it->is_failing)
+        say("node %s:%u: connected again", it->host, it->port);
+    it->is_failing = false;
+    it->failed = 0;
+    node_touch(it);
+}
+
+void node_finish_opening(node *it) {
+    int fault = 0;
+    socklen_t len = sizeof fault;
+    getsockopt(it->peer.fd, SOL_SOCKET, SO_ERROR, &fault, &len);
+    it->heard = it->worker->now;
+    if (fault != 0)
+        node_doom(it, strerror(fault));
+    else if (the_proxy.settings.node_password != NULL)
+        log_in(it);
+    else
+        node_become_open(it);
+}

@@ -1,0 +1,153 @@
+#include "request.h"
+
+#include "client.h"
+#include "invariants.h"
+#include "node.h"
+#include "order.h"
+#include "private.h"
+#include "topology.h"
+#include "transaction.h"
+
+#include <stdio.h>
+#include <string.h>
+
+static const char asking[] = "*1\r\n$6\r\nASKING\r\n";
+
+void part_send(request *it, uint32_t at) {
+    part *part = &it->part[at];
+    worker *worker = it->client->worker;
+    node *to = part->to != NULL      ? part->to
+               : part->slot == NO_SLOT ? topology_any(worker)
+                                       : topology_owner(worker, part->slot);
+    if (to == NULL) {
+        topology_want(worker);
+        part->due = worker->now + LONGER_PAUSE;
+        part_hold(it, at, PART_AGAIN);
+        return;
+    }
+    if (it->is_private)
+        to = private_node(it->client, to);
+    if (part->asking)
+        node_ask(to, asking, sizeof asking - 1, (waiter){.waits = WAITS_NOTHING});
+    part->state = PART_SENT;
+    it->in_flight++;
+    figure_add(&worker->stats.counts[COUNT_PARTS], 1);
+    if (it->queued > 0)
+        transaction_ask(to, it);
+    else
+        node_ask(to, it->sent + part->start, part->end - part->start,
+                 (waiter){.request = it, .part = at, .client_id = it->client_id, .waits = WAITS_PART});
+}
+
+/* Takes the first request off a client's queue: its reply, of this length, was written. */
+static void unqueue(client *client, size_t reply_len) {
+    request *it = client->first;
+    client->first = it->next;
+    if (client->first == NULL)
+        client->last = NULL;
+    client->queued--;
+    client->queued_bytes -= it->len;
+    client->is_alone = false;
+    client->reply_len = (7 * client->reply_len + reply_len) / 8;
+    stats_took(&client->worker->stats, client->worker->now - it->start);
+    request_free(it);
+}
+
+void requests_answer(client *client) {
+    while (client->first != NULL && client->first->left == 0) {
+        size_t before = buffer_len(&client->out);
+        reply_write(client->first, &client->out);
+        unqueue(client, buffer_len(&client->out) - before);
+    }
+    client_touch(client);
+}
+
+void part_keep(part *part, const uint8_t *reply, size_t len) {
+    if (part->reply != NULL)
+        memory_give(part->reply, part->reply_len);
+    part->reply = NULL;
+    part->reply_len = len;
+    if (len > SMALL_REPLY)
+        part->reply = memory_take_raw(len);
+    memcpy(part->reply != NULL ? part->reply : part->small, reply, len);
+}
+
+void part_finish(request *it, uint32_t at, const uint8_t *reply, size_t len) {
+    client *client = it->client;
+    part *part = &it->part[at];
+    if (part->state == PART_HELD || part->state == PART_AGAIN)
+        client->held--;
+    part->state = PART_DONE;
+    it->left--;
+    if (it->parts == 1 && it->policy == 0 && client->first == it) {
+        buffer_put(&client->out, reply, len);
+        unqueue(client, len);
+        requests_answer(client);
+        return;
+    }
+    part_keep(part, reply, len);
+    if (client->first == it && it->left == 0)
+        requests_answer(client);
+}
+
+void part_fail(request *it, uint32_t at, const char *text) {
+    buffer error = {0};
+    buffer_print(&error, "-%s\r\n", text);
+    figure_add(&it->client->worker->stats.counts[COUNT_OWN_ERRORS], 1);
+    part_finish(it, at, buffer_at(&error), buffer_len(&error));
+    buffer_free(&error);
+}
+
+/* A part of a request that belongs to nobody is done. */
+static void drop(request *it, uint32_t at) {
+    it->part[at].state = PART_DONE;
+    it->left--;
+    if (it->in_flight == 0)
+        request_free(it);
+}
+
+void part_reply(request *it, uint32_t at, node *from, const uint8_t *reply, size_t len) {
+    client *client = it->client;
+    uint16_t slot = it->part[at].slot;
+    check_that(it->part[at].state == PART_SENT, "a reply goes to a part that was sent");
+    it->in_flight--;
+    if (client == NULL) {
+        drop(it, at);
+    } else if (reply[0] != '-') {
+        part_finish(it, at, reply, len);
+    } else if (it->queued > 0 ? !transaction_follow(it, from, reply, len) : !redirect_follow(it, at, from, reply, len)) {
+        figure_add(&from->worker->stats.counts[COUNT_NODE_ERRORS], 1);
+        part_finish(it, at, reply, len);
+    }
+    if (client != NULL && client->held > 0)
+        slot_advance(client, slot);
+}
+
+void part_lost(request *it, uint32_t at, node *lost_at, bool was_sent) {
+    client *client = it->client;
+    part *part = &it->part[at];
+    char text[HOST_ROOM + 256];
+    it->in_flight--;
+    if (client == NULL) {
+        drop(it, at);
+        return;
+    }
+    worker *worker = client->worker;
+    bool is_again = !was_sent && it->policy == 0 && part_may_try(it, at);
+    if (is_again) {
+        part->to = NULL;
+        part->asking = false;
+        part->due = worker->now + LONGER_PAUSE;
+        part_hold(it, at, PART_AGAIN);
+        return;
+    }
+    if (was_sent)
+        figure_add(&worker->stats.counts[COUNT_UNKNOWN_END], 1);
+    snprintf(text, sizeof text, "ERR node %s:%u: %s; %s %s", lost_at->host, lost_at->port, lost_at->why,
+             it->parts > 1 ? "its part of the command" : "the command",
+             was_sent ? "may have taken effect" : "did not take effect");
+    uint16_t slot = part->slot;
+    part_fail(it, at, text);
+    if (client->held > 0)
+        slot_advance(client, slot);
+}

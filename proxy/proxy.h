@@ -1,0 +1,169 @@
+/* The things that the proxy is made of. Each belongs to one thread, which alone touches it. */
+#ifndef PROXY_PROXY_H
+#define PROXY_PROXY_H
+
+#include "buffer.h"
+#include "layer.h"
+#include "settings.h"
+#include "stats.h"
+
+enum { MOST_NODES = 4096, NO_SLOT = 65535, SMALL_REPLY = 40, SMALL_ERROR = 512, READ_ROOM = 65536 };
+enum { MOST_QUEUED = 256, MOST_UNREAD = 1 << 20 }; /* requests and bytes of replies, before a client has to wait */
+enum { MILLISECOND = 1000, SECOND = 1000000 };      /* in microseconds, in which all times are */
+enum { PAUSE = 20 * MILLISECOND, LONGER_PAUSE = 50 * MILLISECOND };
+
+typedef struct worker worker;
+typedef struct client client;
+typedef struct node node;
+typedef struct request request;
+
+/* What epoll watches. */
+typedef enum peer_kind { PEER_CLIENT, PEER_NODE, PEER_LISTENER, PEER_GIVEN, PEER_FIGURES, PEER_READER } peer_kind;
+
+typedef struct peer {
+    peer_kind kind;
+    int fd;
+    uint32_t events;
+    bool is_watched;
+} peer;
+
+/* Where a part of a request is. HELD: it was not sent yet. AGAIN: it was sent, and took no effect. */
+typedef enum part_state { PART_HELD, PART_SENT, PART_AGAIN, PART_DONE } part_state;
+
+typedef struct part {
+    size_t start, end; /* its bytes in `sent` of its request */
+    node *to;          /* where it goes, or NULL for the node of its slot */
+    uint64_t due;      /* when it may be sent again */
+    uint64_t since;    /* when it had no effect for the first time, or 0 */
+    uint8_t *reply;    /* NULL for a reply in `small` */
+    size_t reply_len;
+    uint16_t slot, redirects;
+    uint8_t state;
+    bool asking;
+    uint8_t small[SMALL_REPLY];
+} part;
+
+/* A request of a client. It is freed once it is answered. If the client has gone, it is freed once no part
+ * is on its way. */
+struct request {
+    client *client; /* NULL if it has gone */
+    request *next;
+    uint64_t client_id, start;
+    uint32_t parts, left, in_flight; /* all parts, those not done, those sent */
+    uint32_t policy;
+    bool is_split, is_script, is_private;
+    uint32_t queued; /* the commands of a transaction, or 0 */
+    size_t len, size; /* of the request, and of the block that it stands in */
+    uint8_t *bytes, *sent; /* the request, and what its parts are pieces of */
+    part *part, one;
+};
+
+struct client {
+    peer peer;
+    worker *worker;
+    uint64_t id;
+    client *next, *previous; /* all clients of the thread */
+    client *next_dirty, *next_troubled, *next_dead;
+    buffer in, out;
+    scan scan;
+    request *first, *last; /* in the order of their replies */
+    size_t queued, queued_bytes;
+    size_t reply_len; /* of its replies, about: those of late count most */
+    size_t held;      /* parts that are HELD or AGAIN */
+    uint64_t read_at; /* when it last took bytes of its replies, or had none to take */
+    uint64_t end_at;  /* when a client that is to close has to be gone */
+    const char *doom; /* why it is closed at the end of the round, or NULL */
+    bool is_dirty, is_troubled, is_known; /* known: it gave the password, if there is one */
+    bool is_alone;  /* its one request goes to many nodes: the next waits */
+    bool is_ending; /* nothing more is read as requests */
+    bool has_ended; /* it will send nothing more */
+    bool is_shut;   /* all was written, and it was told so */
+    bool is_paused; /* it waits because of the memory of all */
+    bool is_subscribed;
+    node *own; /* a connection that it has alone, or NULL */
+    bool is_multi, is_multi_bad;
+    buffer multi; /* the commands since MULTI */
+    uint32_t multi_count;
+    uint16_t multi_slot;
+    char name[64];
+};
+
+typedef enum waits { WAITS_PART, WAITS_QUEUED, WAITS_NOTHING, WAITS_PASSWORD, WAITS_MAP } waits;
+
+/* Who waits for the next reply of a node. WAITS_NOTHING: the reply is dropped. */
+typedef struct waiter {
+    request *request;
+    uint64_t client_id; /* or the number of the map that was asked for */
+    uint64_t offset;    /* where its bytes begin in the stream to the node */
+    uint32_t part;
+    waits waits;
+} waiter;
+
+typedef enum node_state { NODE_CLOSED, NODE_OPENING, NODE_LOGIN, NODE_OPEN } node_state;
+
+struct node {
+    peer peer;
+    worker *worker;
+    char host[HOST_ROOM];
+    uint16_t port, number; /* number: its place in `nodes` of its thread */
+    node_state state;
+    buffer in, out;
+    scan scan;
+    waiter *queue; /* a ring */
+    size_t first, count, room;
+    uint64_t given, sent, replies;  /* bytes put into `out` and bytes written, and replies read, since it was opened */
+    uint64_t asked;                 /* how many replies were asked for since it was opened */
+    uint64_t heard;                 /* when it said something, or was asked while it owed nothing */
+    uint64_t failed;                /* when a connection failed last, or 0 */
+    const char *lost;               /* why the connection is closed at the end of the round, or NULL */
+    char why[128];
+    node *next_dirty, *next_left;
+    client *client; /* who has it alone, or NULL */
+    bool is_dirty, is_failing, is_in_map, is_private;
+};
+
+/* Where slots are. */
+typedef struct topology {
+    uint16_t owner[SLOTROUTE_SLOTS]; /* the number of its node, or SLOTROUTE_NO_NODE */
+    uint64_t moving[SLOTROUTE_SLOTS]; /* until when the commands of a client on a slot go one after the other */
+    uint64_t moving_until;            /* the latest of these */
+    node *primaries[MOST_NODES], *all[MOST_NODES];
+    size_t primary_count, all_count, slots, next_any, next_asked, tries;
+    bool has_map, is_wanted, is_asked;
+    uint64_t number, asked_at, next_at; /* of the map that is asked for */
+    char why[192];                      /* why there is no map */
+} topology;
+
+struct worker {
+    unsigned number;
+    int poll, given, giver; /* epoll, and a pipe with the clients that the first thread gives */
+    peer given_peer;
+    uint64_t now, next_tick;
+    topology map;
+    node *nodes[MOST_NODES];
+    size_t node_count;
+    client *clients, *dirty_clients, *troubled, *dead;
+    node *dirty_nodes, *left; /* left: given up by the clients that had them alone */
+    bool is_draining, is_pressed;
+    uint64_t drain_until, pressed_at;
+    size_t base; /* the memory that the thread takes without clients */
+    stats stats;
+    uint8_t *read; /* room for what is read */
+};
+
+/* The whole program. Threads only read what is not atomic. */
+typedef struct proxy {
+    settings settings;
+    worker *workers[MOST_THREADS];
+    uint64_t start;
+    _Atomic uint64_t clients, next_id;
+    _Atomic int draining; /* 1 after SIGTERM, 2 after another one */
+} proxy;
+
+extern proxy the_proxy;
+
+uint64_t clock_now(void);
+void say(const char *format, ...) __attribute__((format(printf, 1, 2)));   /* a line of the log */
+void warn(const char *format, ...) __attribute__((format(printf, 1, 2))); /* also if `quiet` */
+
+#endif

@@ -1,0 +1,68 @@
+#include "order.h"
+
+#include "node.h"
+#include "topology.h"
+
+#include <string.h>
+
+enum { MANY_REDIRECTS = 5 }; /* in a row, after which each has a pause */
+
+static bool begins(const uint8_t *error, size_t len, const char *text) {
+    return len >= strlen(text) && memcmp(error, text, strlen(text)) == 0;
+}
+
+/* Whether the error says that the command did nothing, and may do it after a while. A script can write such an
+ * error itself, after effects. Commands after MULTI are not run yet, so their errors are as good. */
+static bool is_pause(const request *request, const uint8_t *error, size_t len) {
+    return (!request->is_script || request->queued > 0) && (begins(error, len, "-TRYAGAIN ") || begins(error, len, "-CLUSTERDOWN ") ||
+                          begins(error, len, "-LOADING "));
+}
+
+static void hold_for(request *request, uint32_t part, node *to, bool asking, uint64_t pause) {
+    struct part *it = &request->part[part];
+    it->to = to;
+    it->asking = asking;
+    it->due = request->client->worker->now + pause;
+    part_hold(request, part, PART_AGAIN);
+}
+
+bool redirect_follow(request *request, uint32_t part, node *from, const uint8_t *error, size_t len) {
+    worker *worker = from->worker;
+    struct part *it = &request->part[part];
+    redirect found;
+    if (begins(error, len, "-READONLY ")) /* a primary that has become a replica */
+        topology_want(worker);
+    if (it->slot == NO_SLOT)
+        return false;
+    if (is_pause(request, error, len) && part_may_try(request, part)) {
+        figure_add(&worker->stats.counts[COUNT_TRYAGAIN], 1);
+        if (begins(error, len, "-TRYAGAIN "))
+            topology_slows(worker, it->slot);
+        else
+            topology_want(worker);
+        hold_for(request, part, NULL, false, PAUSE);
+        return true;
+    }
+    if (!begins(error, len, "-MOVED ") && !begins(error, len, "-ASK "))
+        return false;
+    if (!part_may_try(request, part) || !layer_redirect(error, len, from->host, &found) ||
+        found.to.slot != it->slot)
+        return false;
+    node *to = node_at(worker, found.host, (uint16_t)found.to.port);
+    if (to == NULL)
+        return false;
+    uint64_t pause = ++it->redirects > MANY_REDIRECTS ? PAUSE : 0;
+    if (found.to.kind == SLOTROUTE_MOVED) {
+        figure_add(&worker->stats.counts[COUNT_MOVED], 1);
+        topology_moved(worker, it->slot, to);
+        hold_for(request, part, NULL, false, pause);
+    } else {
+        figure_add(&worker->stats.counts[COUNT_ASK], 1);
+        topology_slows(worker, it->slot);
+        if (request->queued > 0) /* ASKING holds for one command, and MULTI would be it */
+            hold_for(request, part, NULL, false, PAUSE);
+        else
+            hold_for(request, part, to, true, pause);
+    }
+    return true;
+}

@@ -1,0 +1,46 @@
+/* Requests of clients, and their parts on the way to nodes. invariants.h says what holds of them. */
+#ifndef PROXY_REQUEST_H
+#define PROXY_REQUEST_H
+
+#include "commands.h"
+#include "proxy.h"
+
+/* Sends a request to where the library says. False if it has to wait until the client's earlier requests
+ * are answered: then nothing was done. */
+bool request_begin(client *client, const uint8_t *bytes, size_t len, command_kind kind);
+
+/* Sends a transaction: MULTI, its commands, and EXEC, all of one slot. */
+void request_begin_transaction(client *client, const uint8_t *bytes, size_t len, uint16_t slot, uint32_t queued);
+
+/* Answers a request with a text of the proxy's own, once the earlier ones are answered. */
+void request_answer_own(client *client, const char *text, size_t len);
+
+/* An error with this text. */
+void request_refuse(client *client, const char *text);
+
+/* A reply to a part has come, or the connection was lost. `was_sent`: a node may have read some of it. */
+void part_reply(request *request, uint32_t part, node *from, const uint8_t *reply, size_t len);
+void part_lost(request *request, uint32_t part, node *at, bool was_sent);
+
+/* Sends a part to its node. */
+void part_send(request *request, uint32_t part);
+
+/* Keeps a reply until all earlier ones are written. */
+void part_keep(part *part, const uint8_t *reply, size_t len);
+
+/* A part is done, with this reply. May free the request. */
+void part_finish(request *request, uint32_t part, const uint8_t *reply, size_t len);
+void part_fail(request *request, uint32_t part, const char *text);
+
+/* Writes the replies to the requests that are complete, in their order. */
+void requests_answer(client *client);
+
+void request_free(request *request);
+
+/* The client has gone: its requests belong to nobody. */
+void requests_disown(client *client);
+
+/* Writes the one reply to a complete request. */
+void reply_write(request *request, buffer *out);
+
+#endif

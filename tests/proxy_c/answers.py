@@ -1,0 +1,206 @@
+"""What clients are answered."""
+
+import re
+import socket
+import subprocess
+import tempfile
+import threading
+import time
+
+from base import OTHER, PORT, PROGRAM, example, figures, is_open, proxy, raw, rest_of
+from example import Client, Move, others, request, until
+
+
+def try_own():
+    """What the proxy answers itself."""
+    client = Client()
+    found = [
+        client.ask("PING"), client.ask("PING", "x"), client.ask("ECHO", "hello"), client.ask("SELECT", "0"),
+        client.ask("SELECT", "1")[:4], client.ask("HELLO", "3")[:8], client.ask("HELLO", "2")[4:6],
+        client.ask("CLIENT", "SETNAME", "me"), client.ask("CLIENT", "GETNAME"), b"maps:" in client.ask("INFO"),
+        len(client.ask("COMMAND")) > 100, client.ask("AUTH", "x")[:4], client.ask("QUIT"),
+    ]  # fmt: skip
+    print(found)
+    return found == [
+        "+PONG", b"x", b"hello", "+OK", "-ERR", "-NOPROTO", [b"proto", 2], "+OK", b"me", True, True, "-ERR", "+OK",
+    ]  # fmt: skip
+
+
+def try_client_password():
+    """Clients have to give the password that --password names."""
+    words = [PROGRAM, "--listen", f"127.0.0.1:{OTHER}", "--node", f"127.0.0.1:{PORT}", "--password", "secret"]
+    process = subprocess.Popen(words, stderr=subprocess.DEVNULL)
+    try:
+        until(10, lambda: is_open(OTHER))
+        client = Client(OTHER)
+        found = [
+            client.ask("GET", "foo")[:7], client.ask("AUTH", "wrong")[:10], client.ask("HELLO", "2")[:7],
+            client.ask("AUTH", "secretx")[:10], client.ask("AUTH", "secret"), client.ask("SET", "foo", "1"),
+            Client(OTHER).ask("HELLO", "2", "AUTH", "default", "secret")[5],
+        ]  # fmt: skip
+    finally:
+        process.terminate()
+        process.wait()
+    print(found)
+    return found == ["-NOAUTH", "-WRONGPASS", "-NOAUTH", "-WRONGPASS", "+OK", "+OK", 2]
+
+
+def try_node_user():
+    """Nodes that want a user and a password get both on each connection, also on one that a client has alone."""
+    for port in range(PORT, PORT + 6):
+        Client(port).ask("ACL", "SETUSER", "me", "on", ">word", "~*", "&*", "+@all")
+    example.set_password("secret")
+    try:
+        with proxy(OTHER, PORT, "--node-user", "me", "--node-password", "word"):
+            client, subscriber = Client(OTHER), Client(OTHER)
+            found = [client.ask("MSET", "foo", "1", "bar", "2"), subscriber.ask("SUBSCRIBE", "news"), client.ask("PUBLISH", "news", "x")]
+            found += [subscriber.reply(), client.ask("BLPOP", "none", "0.1"), client.ask("MGET", "bar", "foo")]
+    finally:
+        example.set_password("", "secret")
+    print(found)
+    return found[0] == "+OK" and found[3:] == [[b"message", b"news", b"x"], [], [b"2", b"1"]]
+
+
+def try_settings():
+    """A wrong setting is refused, with its line if it stands in a file."""
+    found = []
+    for text in ("node 127.0.0.1:1\nthreads none\n", "# a remark\n\nnode here\n", "nodes 127.0.0.1:1\n", "memory 3tb\n"):
+        with tempfile.NamedTemporaryFile("w") as file:
+            file.write(text)
+            file.flush()
+            run = subprocess.run([PROGRAM, "--config", file.name], capture_output=True, text=True)
+            found.append((run.returncode, run.stderr.replace(file.name, "FILE")))
+    run = subprocess.run([PROGRAM, "--threads", "0"], capture_output=True, text=True)
+    found.append((run.returncode, run.stderr))
+    print(found)
+    numbers = [re.search(r"FILE:(\d):", it[1]) for it in found[:4]]
+    return [it and it.group(1) for it in numbers] == ["2", "3", "1", "1"] and all(it[0] == 2 for it in found)
+
+
+def try_figures():
+    """INFO and the figures for Prometheus count what clients do."""
+    before, client = figures(), Client()
+    client.ask_all([["SET", "foo", "1"], ["MGET", "foo", "bar"], ["LPUSH", "foo", "1"], ["MONITOR"]])
+    time.sleep(0.2)
+    after = figures()
+    found = {it: after[it] - before[it] for it in ("commands_total", "split_commands_total", "error_replies_total", "own_errors_total", "seconds_count")}
+    print(found, {it: value for it, value in after.items() if value and "bucket" not in it})
+    return [*found.values()] == [4, 1, 1, 1, 4] and b"split_commands:%d" % after["split_commands_total"] in client.ask("INFO")
+
+
+def try_take():
+    """A name that --take adds goes to the node of its first argument, and others are refused with their name."""
+    with proxy(OTHER, PORT, "--take", "bf.add"):
+        found = Client(OTHER).ask("BF.ADD", "foo", "1"), Client(OTHER).ask("BF.NONE\r\n", "foo")
+    print(found)
+    return found[0].startswith("-ERR unknown command") and found[1] == "-ERR the proxy does not take 'BF.NONE??': it does not know this command"
+
+
+def try_unix():
+    """Clients can connect to a path."""
+    with tempfile.TemporaryDirectory() as folder, proxy(OTHER, PORT, "--unix", f"{folder}/proxy"):
+        connection = socket.socket(socket.AF_UNIX)
+        connection.connect(f"{folder}/proxy")
+        connection.sendall(request("SET", "foo", "1") + request("GET", "foo"))
+        found = b""
+        while len(found) < 12:
+            found += connection.recv(100)
+    print(found)
+    return found == b"+OK\r\n$1\r\n1\r\n"
+
+
+def try_half_closed():
+    """A client that sends no more gets the replies to all that it sent."""
+    connection = raw()
+    connection.sendall(b"".join(request("SET", f"key{it}", it) + request("GET", f"key{it}") for it in range(500)))
+    connection.shutdown(socket.SHUT_WR)
+    wanted = b"".join(b"+OK\r\n$%d\r\n%d\r\n" % (len(str(it)), it) for it in range(500))
+    found = rest_of(connection)
+    print(f"{len(found)} of {len(wanted)} bytes")
+    return found == wanted
+
+
+def try_pieces():
+    """Requests that come byte by byte, and many at once, are answered in their order."""
+    connection, found = raw(), b""
+    connection.setsockopt(socket.IPPROTO_TCP, socket.TCP_NODELAY, 1)
+    some = request("SET", "{foo}a", "1") + request("MGET", "{foo}a", "bar", "baz") + request("DBSIZE") + request("GET", "{foo}a")
+    Client().ask_all([["FLUSHALL"], ["SET", "bar", "2"]])
+    for at in range(len(some)):
+        connection.sendall(some[at : at + 1])
+    connection.sendall(some * 300)
+    wanted = b"+OK\r\n*3\r\n$1\r\n1\r\n$1\r\n2\r\n$-1\r\n:2\r\n$1\r\n1\r\n" * 301
+    while len(found) < len(wanted):
+        found += connection.recv(1 << 16)
+    print(f"{len(found)} of {len(wanted)} bytes")
+    return found == wanted
+
+
+def try_transaction():
+    """MULTI and EXEC over one slot, and no command of others between them."""
+    client, found = Client(), []
+    client.ask("DEL", "{foo}a", "{foo}b")
+    with others(4, "{foo}") as seen:
+        for _ in range(50):
+            found.append(client.ask_all([["MULTI"], ["INCR", "{foo}a"], ["GET", "{foo}a"], ["LPUSH", "{foo}a", "1"], ["EXEC"]]))
+    right = [
+        ["+OK", "+QUEUED", "+QUEUED", "+QUEUED", [at, b"%d" % at, "-WRONGTYPE Operation against a key holding the wrong kind of value"]]
+        for at in range(1, 51)
+    ]
+    rest = [
+        client.ask_all([["MULTI"], ["SET", "foo", "1"], ["SET", "bar", "1"], ["EXEC"]]), client.ask("EXEC"),
+        client.ask_all([["MULTI"], ["EXEC"]]), client.ask_all([["MULTI"], ["SET", "foo", "7"], ["DISCARD"], ["GET", "foo"]])[2],
+    ]  # fmt: skip
+    rest[0] = [it[:10] for it in rest[0]]
+    print(found == right, rest, dict(seen))
+    wanted = [["+OK", "+QUEUED", "-CROSSSLOT", "-EXECABORT"], "-ERR EXEC without MULTI", ["+OK", []], "+OK"]
+    return found == right and rest == wanted and seen.keys() == {"right", "longest"}
+
+
+def try_transaction_move():
+    """A transaction on a slot that moves takes effect once, and as a whole."""
+    client = Client()
+    client.ask_all([["SET", "{tx}a", "0"], ["SET", "{tx}b", "0"]])
+    move = Move("{tx}a")
+    move.key("{tx}a")
+    finisher = threading.Timer(0.5, move.finish, ["{tx}b"])
+    finisher.start()
+    found = client.ask_all([["MULTI"], ["INCR", "{tx}a"], ["INCR", "{tx}b"], ["EXEC"], ["MGET", "{tx}a", "{tx}b"]])
+    finisher.join()
+    print(found)
+    return found[3:] == [[1, 1], [b"1", b"1"]]
+
+
+def try_blocking():
+    """A command that waits holds up its own client alone. If the client leaves, it takes nothing."""
+    waiting, leaving, client = Client(), Client(), Client()
+    client.ask("DEL", "{foo}list")
+    leaving.socket.sendall(request("BLPOP", "{foo}list", "0"))
+    time.sleep(0.2)
+    leaving.lines.close()
+    leaving.socket.close()
+    time.sleep(0.3)
+    waiting.socket.sendall(request("BLPOP", "{foo}list", "0") + request("GET", "{foo}x"))
+    time.sleep(0.2)
+    client.ask("SET", "{foo}x", "2")
+    pushed, found = client.ask("RPUSH", "{foo}list", "1"), [waiting.reply(), waiting.reply()]
+    start = time.monotonic()
+    timed_out = client.ask("BLPOP", "{foo}none", "0.5")
+    took = time.monotonic() - start
+    print(pushed, found, timed_out, f"{took:.2f} s")
+    return pushed == 1 and found == [[b"{foo}list", b"1"], b"2"] and 0.4 < took < 3
+
+
+def try_subscription():
+    """A subscriber gets what others publish, and goes on as a usual client after it has unsubscribed."""
+    subscriber, client, found = Client(), Client(), []
+    subscriber.socket.sendall(request("SUBSCRIBE", "news", "more"))
+    found += [subscriber.reply(), subscriber.reply()]
+    for it in range(3):
+        client.ask("PUBLISH", "news", str(it))
+        found.append(subscriber.reply())
+    found += [subscriber.ask("PING"), subscriber.ask("GET", "foo")[:4], subscriber.ask("UNSUBSCRIBE"), subscriber.reply()]
+    found += [subscriber.ask("SET", "foo", "1"), subscriber.ask("GET", "foo")]
+    print(found)
+    wanted = [[b"message", b"news", b"%d" % it] for it in range(3)]
+    return found[2:5] == wanted and found[5:7] == [[b"pong", b""], "-ERR"] and found[-2:] == ["+OK", b"1"]

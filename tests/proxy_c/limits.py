@@ -1,0 +1,225 @@
+"""Clients that do what they should not, and many of them."""
+
+import os
+import random
+import re
+import socket
+import socketserver
+import threading
+import time
+import urllib.request
+from collections import Counter
+from contextlib import suppress
+
+from base import FIGURES, IS_CHECKED, OTHER, PORT, descriptors_of, example, is_open, memory_of, proxy, raw, rest_of
+from example import Client, others, request, said, until
+
+
+GARBAGE = [
+    b"GET foo\r\n", b"*2\r\n$3\r\nGET\r\n:3\r\n", b"*-5\r\n$1\r\n", b"\x00" * 100, b"*1\r\n$-1\r\n", b"*1\r\n$99999999999\r\n",
+    b"*2\r\n$3\r\nGET\r\n$3\r\nfooXX", b"*99999999999999999999\r\n", b"\r\n\r\n", b"$3\r\nfoo\r\n", b"*1\r\n$4\r\nPING\n\n",
+]  # fmt: skip
+
+
+def try_garbage():
+    """Garbage ends its own connection with an error, and half requests wait, while others are served."""
+    found, halves = Counter(), [raw() for _ in range(20)]
+    with others(4, "own") as seen:
+        for at, half in enumerate(halves):
+            half.sendall(request("SET", "foo", "x" * 100)[: 5 + at])
+        for it in GARBAGE:
+            connection = raw()
+            connection.sendall(request("PING") + it)
+            connection.shutdown(socket.SHUT_WR)
+            found[rest_of(connection)[:20]] += 1
+        for at, half in enumerate(halves):
+            half.sendall(request("SET", "foo", "x" * 100)[5 + at :])
+        answers = Counter(half.recv(100) for half in halves)
+    print(dict(found), dict(answers), dict(seen))
+    return all(it.startswith(b"+PONG\r\n") for it in found) and answers == {b"+OK\r\n": 20} and seen.keys() == {"right", "longest"}
+
+
+def try_large():
+    """A large value beside small ones."""
+    client, value = Client(), os.urandom(30 << 20)
+    with others(4, "own") as seen:
+        found = client.ask("SET", "{foo}large", value), client.ask("GET", "{foo}large") == value
+        parts = client.ask("MGET", "{foo}large", "bar", "{foo}large")
+        client.ask("DEL", "{foo}large")
+        too_long = raw()
+        with suppress(OSError):
+            too_long.sendall(b"*3\r\n$3\r\nSET\r\n$3\r\nfoo\r\n$99000000\r\n" + bytes(99000000))
+        error = rest_of(too_long)[:60]
+    is_right = parts[0] == value and parts[2] == value
+    print(found, is_right, error, dict(seen))
+    return found == ("+OK", True) and is_right and b"of more than" in error and seen.keys() == {"right", "longest"}
+
+
+def try_unread():
+    """Clients that never read make the proxy stop reading of them, and take bounded memory."""
+    Client().ask("SET", "{foo}10k", "x" * 10000)
+    with proxy(OTHER, PORT, "--client-timeout", "4000") as (process, _, report):
+        Client(OTHER).ask("GET", "{foo}10k")
+        before, many = memory_of(process), [raw(OTHER) for _ in range(20)]
+        sent = 0
+        for it in many:
+            it.setblocking(False)
+        for _ in range(100):
+            for it in many:
+                with suppress(OSError):
+                    sent += it.send(request("GET", "{foo}10k") * 100)
+        most, start = memory_of(process), time.monotonic()
+        for _ in range(20):
+            assert Client(OTHER).ask("GET", "{foo}10k") == b"x" * 10000
+            most = max(most, memory_of(process))
+        took = time.monotonic() - start
+        closed = until(20, lambda: said(report).count("leaves its replies unread") == 20)
+        after = memory_of(process)
+    print(f"sent {sent} bytes of requests; memory {before}, {most}, {after} kB; twenty others: {took:.2f} s; closed after {closed} s")
+    return closed is not None and (IS_CHECKED or (most - before < 200000 and after - before < 60000 and took < 3))
+
+
+def try_limits():
+    """Above --max-clients a client gets an error. All memory that clients may take is bounded."""
+    with proxy(OTHER, PORT, "--max-clients", "50", "--memory", "32mb", "--max-message", "8mb") as (process, _, report):
+        time.sleep(0.5)  # until the connection that tried the port is closed
+        clients = [Client(OTHER) for _ in range(50)]
+        found = {it.ask("PING") for it in clients}
+        error = rest_of(raw(OTHER))
+        before = memory_of(process)
+        for it in clients[1:]:  # 49 halves of 7 MiB
+            it.socket.settimeout(0.5)
+            with suppress(OSError):
+                it.socket.sendall(b"*3\r\n$3\r\nSET\r\n$3\r\nfoo\r\n$7340032\r\n" + bytes(6 << 20))
+        until(10, lambda: said(report).count("too much memory") > 0)
+        alive, most = clients[0].ask("SET", "foo", "1"), memory_of(process) - before
+        closed = said(report).count("too much memory")
+    print(found, error, alive, f"{most} kB more, {closed} closed")
+    return found == {"+PONG"} and error.startswith(b"-ERR max number") and alive == "+OK" and (IS_CHECKED or most < 150000) and closed > 0
+
+
+def try_drain():
+    """SIGTERM lets open requests end, and then the proxy ends with status 0."""
+    with proxy(OTHER, PORT) as (process, _, report):
+        connection = raw(OTHER)
+        connection.sendall(request("EVAL", "local t = redis.call('TIME')[1] + 2 while redis.call('TIME')[1] + 0 < t do end return 7", "1", "foo"))
+        time.sleep(0.3)
+        process.terminate()
+        time.sleep(0.3)
+        refused = not is_open(OTHER)
+        found, status = rest_of(connection), process.wait(20)
+        print(found, status, refused, said(report).splitlines()[-1])
+    return found == b":7\r\n" and status == 0 and refused
+
+
+def try_back():
+    """After many clients with pipelines have come and gone, descriptors and memory are what they were."""
+    with proxy(OTHER, PORT, "--metrics", f"127.0.0.1:{FIGURES + 1}") as (process, _, _):
+        rounds = []
+        for _ in range(4):
+            clients = [Client(OTHER) for _ in range(300)]
+            for at, it in enumerate(clients):
+                it.socket.sendall(b"".join(request("MSET", f"a{at}", "x" * 2000, f"b{at}", "y") + request("MGET", f"a{at}", f"b{at}") for _ in range(20)))
+            for it in clients[::2]:
+                for _ in range(40):
+                    it.reply()
+            for it in clients:  # half of them close with replies on their way
+                it.lines.close()
+                it.socket.close()
+            time.sleep(0.5)
+            text = urllib.request.urlopen(f"http://127.0.0.1:{FIGURES + 1}/").read().decode()
+            held = int(re.search(r"proxy_memory_bytes (\d+)", text).group(1))
+            rounds.append((descriptors_of(process), held, memory_of(process)))
+    print("descriptors, bytes held, kB of the process:", rounds)
+    is_small = IS_CHECKED or rounds[-1][2] < rounds[0][2] * 1.3 + 2000
+    return rounds[-1][0] <= rounds[0][0] + 1 and abs(rounds[-1][1] - rounds[0][1]) < 200000 and is_small
+
+
+def try_many():
+    """Five thousand clients at once."""
+    with proxy(OTHER, PORT, "--threads", "2") as (process, _, _):
+        clients = [Client(OTHER) for _ in range(5000)]
+        start = time.monotonic()
+        for at, it in enumerate(clients):
+            it.socket.sendall(request("SET", f"many{at}", at) + request("GET", f"many{at}"))
+        found = all((it.reply(), it.reply()) == ("+OK", b"%d" % at) for at, it in enumerate(clients))
+        took, memory = time.monotonic() - start, memory_of(process)
+        for it in clients:
+            it.lines.close()
+            it.socket.close()
+    print(f"{took:.1f} s, {memory} kB")
+    return found
+
+
+def try_fuzz():
+    """Mutated requests, in pieces, of many clients at once: no fault, and others are served."""
+    rng, start = random.Random(int(os.environ.get("SEED", "1"))), time.monotonic()
+    seconds, count = float(os.environ.get("SECONDS", "10")), 0
+    words = ["GET", "SET", "MGET", "MSET", "DEL", "EVAL", "XREAD", "STREAMS", "BLOCK", "HELLO", "AUTH", "CLIENT", "INFO", "SCRIPT", "LOAD",
+             "KEYS", "DBSIZE", "PING", "foo", "bar", "{foo}a", "", "0", "1", "-1", "x" * 300, "EXISTS", "MULTI", "QUIT", "PUBSUB", "NUMSUB"]  # fmt: skip
+    with others(2, "own") as seen:
+        while time.monotonic() < start + seconds:
+            connections = [raw() for _ in range(10)]
+            for it in connections:
+                data = bytearray(b"".join(request(*rng.choices(words, k=rng.randrange(1, 6))) for _ in range(rng.randrange(1, 30))))
+                for _ in range(rng.choice([0, 0, 1, 3, 10])):
+                    at = rng.randrange(len(data))
+                    data[at : at + rng.randrange(3)] = rng.choice([b"", b"\r\n", b"$", b"*9", b"-1", bytes([rng.randrange(256)])])
+                with suppress(OSError):
+                    for at in range(0, len(data), size := rng.randrange(1, 400)):
+                        it.sendall(data[at : at + size])
+                    if rng.random() < 0.5:
+                        it.shutdown(socket.SHUT_WR)
+                count += 1
+            for it in connections:
+                it.settimeout(0.05)
+                with suppress(OSError):
+                    it.recv(1 << 16)
+                it.close()
+    print(f"{count} clients; others meanwhile: {dict(seen)}")
+    return seen.keys() <= {"right", "longest"}
+
+
+class BadNode(socketserver.StreamRequestHandler):
+    """A node that has all slots and answers `GET` with the key, unless it does one of several wrong things."""
+
+    def handle(self):
+        slots = b"*1\r\n*3\r\n:0\r\n:16383\r\n*2\r\n$9\r\n127.0.0.1\r\n:%d\r\n" % example.FAKE
+        rng = random.Random()
+        with suppress(OSError):
+            while line := self.rfile.readline():
+                words = [(self.rfile.readline(), self.rfile.readline())[1][:-2] for _ in range(int(line[1:]))]
+                reply = slots if words[0] == b"CLUSTER" else b"$%d\r\n%s\r\n" % (len(words[1]), words[1])
+                pick = rng.randrange(400) if words[0] == b"GET" else 0
+                if pick == 1:
+                    reply = reply[: rng.randrange(len(reply))]
+                wrong = {2: b"$x\r\n", 3: b"*99999999\r\n", 4: b"-MOVED 1\r\n", 5: b"-ASK 99999 a:1\r\n", 6: b"\x00", 7: b"-MOVED 1 a\nb:1\r\n"}
+                self.wfile.write(wrong.get(pick, reply))
+                if pick == 1:
+                    return
+
+
+def try_bad_node():
+    """A node that breaks the protocol: each client gets its own value, or an error, and no client waits for ever."""
+    socketserver.ThreadingTCPServer.allow_reuse_address = socketserver.ThreadingTCPServer.daemon_threads = True
+    found, threads = Counter(), []
+
+    def ask(number):
+        client = Client(OTHER)
+        for at in range(200):
+            keys = [f"{number}.{at}.{it}" for it in range(5)]
+            for key, reply in zip(keys, client.ask_all(["GET", key] for key in keys)):
+                is_error = isinstance(reply, str) and reply.startswith("-")
+                found["right" if reply == key.encode() else "error" if is_error else f"{key}: {reply}"] += 1
+
+    with socketserver.ThreadingTCPServer(("127.0.0.1", example.FAKE), BadNode) as node:
+        threading.Thread(target=node.serve_forever).start()
+        with proxy(OTHER, example.FAKE, "--timeout", "500", "--quiet"):
+            threads = [threading.Thread(target=ask, args=(it,)) for it in range(20)]
+            for it in threads:
+                it.start()
+            for it in threads:
+                it.join(100)
+        node.shutdown()
+    print(dict(found))
+    return found.keys() == {"right", "error"} and sum(found.values()) == 20000
