@@ -139,7 +139,7 @@ static bool take(client *it, const uint8_t *bytes, size_t len) {
 static size_t take_requests(client *it, const uint8_t *bytes, size_t len) {
     size_t used = 0, end = 0, most = it->is_known ? the_proxy.settings.max_message : STRANGER;
     while (used < len && may_read(it)) {
-        whole found = layer_request(bytes + used, len - used, &it->scan, &end);
+        whole found = layer_request(bytes + used, len - used, &it->progress, &end);
         bool is_long = (found == IS_WHOLE ? end : len - used) > most;
         if (found == IS_MALFORMED || is_long) {
             char text[100];

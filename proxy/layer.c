@@ -4,8 +4,6 @@
 
 enum { LONG_MESSAGE = 16384, FIRST_ROOM = 4096, MOST_PICKS = 16, MOST_KEPT = 1 << 20 };
 
-typedef uint32_t (*length_of)(const uint8_t *, size_t, slotroute_told *);
-
 /* What calls write stands here. It is initialized, as the library wants it. */
 static _Thread_local uint8_t *out;
 static _Thread_local uint16_t *slots;
@@ -28,74 +26,29 @@ static void make_room(size_t bytes, size_t parts) {
     }
 }
 
-/* The number in a line from `at`, whose end is then at `at`. False if the line has not come whole. */
-static bool number_in(const uint8_t *bytes, size_t len, size_t *at, int64_t *number) {
-    const uint8_t *end = memchr(bytes + *at, '\n', len - *at);
-    if (end == NULL)
-        return false;
-    int64_t found = 0;
-    bool is_less = bytes[*at] == '-';
-    for (const uint8_t *digit = bytes + *at + is_less; *digit >= '0' && *digit <= '9' && found < INT32_MAX; digit++)
-        found = 10 * found + (*digit - '0');
-    *number = is_less ? -found : found;
-    *at = (size_t)(end - bytes) + 1;
-    return true;
-}
-
-/* Goes on over the values of a long message. Returns whether it may be whole. It is a hint about when to
- * ask the library, which looks at a message from its beginning. It needs no answer about what is
- * malformed: such a message counts as whole. */
-static bool may_be_whole(const uint8_t *bytes, size_t len, scan *scan) {
-    if (scan->at == 0)
-        scan->left = 1;
-    while (scan->left > 0) {
-        size_t at = scan->at;
-        int64_t number = 0;
-        if (at >= len)
-            return false;
-        uint8_t mark = bytes[at++];
-        if (memchr("+-:$*", mark, 5) == NULL)
-            return true;
-        if (!number_in(bytes, len, &at, &number))
-            return false;
-        scan->left--;
-        if (mark == '$' && number >= 0)
-            at += (size_t)number + 2;
-        else if (mark == '*' && number > 0)
-            scan->left += (uint64_t)number;
-        scan->at = at;
-    }
-    return scan->at <= len;
-}
-
-static whole look(length_of length, uint32_t incomplete, const uint8_t *bytes, size_t len, scan *scan, size_t *end) {
+/* A long message is scanned first, so that one that comes in pieces is gone over once. */
+whole layer_request(const uint8_t *bytes, size_t len, slotroute_progress *progress, size_t *end) {
     slotroute_told told = {0};
-    if (scan->at > 0 && !may_be_whole(bytes, len, scan))
+    if (len >= LONG_MESSAGE && slotroute_scan(bytes, len, progress) == SLOTROUTE_REPLY_INCOMPLETE)
         return IS_PIECE;
-    uint32_t answer = length(bytes, len, &told);
-    if (answer == SLOTROUTE_DONE) {
-        *scan = (struct scan){0};
-        *end = told.bytes;
-        return IS_WHOLE;
-    }
-    if (answer != incomplete)
-        return IS_MALFORMED;
-    if (len >= LONG_MESSAGE && scan->at == 0)
-        may_be_whole(bytes, len, scan);
-    return IS_PIECE;
+    *progress = (slotroute_progress){0};
+    uint32_t answer = slotroute_request_len(bytes, len, &told);
+    *end = told.bytes;
+    return answer == SLOTROUTE_DONE ? IS_WHOLE : answer == SLOTROUTE_REQUEST_INCOMPLETE ? IS_PIECE : IS_MALFORMED;
 }
 
-whole layer_request(const uint8_t *bytes, size_t len, scan *scan, size_t *end) {
-    return look(slotroute_request_len, SLOTROUTE_REQUEST_INCOMPLETE, bytes, len, scan, end);
-}
-
-whole layer_reply(const uint8_t *bytes, size_t len, scan *scan, size_t *end) {
-    return look(slotroute_reply_len, SLOTROUTE_REPLY_INCOMPLETE, bytes, len, scan, end);
+whole layer_reply(const uint8_t *bytes, size_t len, slotroute_progress *progress, size_t *end) {
+    uint32_t answer = slotroute_scan(bytes, len, progress);
+    if (answer != SLOTROUTE_DONE)
+        return answer == SLOTROUTE_REPLY_INCOMPLETE ? IS_PIECE : IS_MALFORMED;
+    *end = progress->bytes;
+    *progress = (slotroute_progress){0};
+    return IS_WHOLE;
 }
 
 bool layer_route(const uint8_t *request, size_t len, slotroute_routed *routed) {
     slotroute_told told = {0};
-    return slotroute_route(request, len, 0, routed, &told) == SLOTROUTE_DONE;
+    return slotroute_route(request, len, NULL, 0, 0, routed, &told) == SLOTROUTE_DONE;
 }
 
 bool layer_split(const uint8_t *request, size_t len, split *split) {
@@ -103,7 +56,8 @@ bool layer_split(const uint8_t *request, size_t len, split *split) {
     uint32_t answer;
     do {
         make_room(told.bytes, told.parts);
-        answer = slotroute_split(request, len, slots, parts_room, ends, parts_room, out, out_room, &told);
+        answer = slotroute_split(request, len, NULL, 0, slots, parts_room, ends, parts_room, out, out_room,
+                                 &told);
     } while (answer == SLOTROUTE_TOO_SMALL);
     *split = (struct split){slots, ends, out, told.parts, told.bytes};
     return answer == SLOTROUTE_DONE;
@@ -121,7 +75,8 @@ uint32_t layer_combine(const uint8_t *request, size_t len, uint32_t policy, size
     do {
         make_room(told.bytes, 1);
         answer = policy == SLOTROUTE_NO_POLICY
-                     ? slotroute_combine(request, len, buffer_at(replies), buffer_len(replies), out, out_room, &told)
+                     ? slotroute_combine(request, len, NULL, 0, buffer_at(replies), buffer_len(replies), out,
+                                         out_room, &told)
                      : slotroute_combine_answers(policy, count, buffer_at(replies), buffer_len(replies), out,
                                                  out_room, &told);
     } while (answer == SLOTROUTE_TOO_SMALL);

@@ -12,17 +12,12 @@
 
 enum { HOST_ROOM = 256 };
 
-/* Where the look at a message that comes in pieces goes on. */
-typedef struct scan {
-    size_t at;     /* the bytes looked at so far */
-    uint64_t left; /* the values that are still to come, if `at` is not 0 */
-} scan;
-
 typedef enum whole { IS_WHOLE, IS_PIECE, IS_MALFORMED } whole;
 
-/* Whether the bytes begin with a whole request or reply, and where it ends. */
-whole layer_request(const uint8_t *bytes, size_t len, scan *scan, size_t *end);
-whole layer_reply(const uint8_t *bytes, size_t len, scan *scan, size_t *end);
+/* Whether the bytes begin with a whole request or reply, and where it ends. If a piece is there, the
+ * progress says how far it was gone over. */
+whole layer_request(const uint8_t *bytes, size_t len, slotroute_progress *progress, size_t *end);
+whole layer_reply(const uint8_t *bytes, size_t len, slotroute_progress *progress, size_t *end);
 
 /* Where a request goes. False if the library cannot read it. */
 bool layer_route(const uint8_t *request, size_t len, slotroute_routed *routed);

@@ -121,7 +121,7 @@ static bool was_written(const node *it) {
 static size_t take_replies(node *it, const uint8_t *bytes, size_t len) {
     size_t used = 0, end = 0;
     while (used < len && it->lost == NULL) {
-        whole found = layer_reply(bytes + used, len - used, &it->scan, &end);
+        whole found = layer_reply(bytes + used, len - used, &it->progress, &end);
         if (found == IS_PIECE && len - used > the_proxy.settings.max_reply)
             node_doom(it, "a reply that is too long");
         if (found == IS_MALFORMED)
@@ -184,7 +184,7 @@ static void lose(node *it) {
     buffer_free(&it->in);
     buffer_free(&it->out);
     it->peer = (peer){.kind = PEER_NODE, .fd = -1};
-    it->scan = (scan){0};
+    it->progress = (slotroute_progress){0};
     it->queue = NULL;
     it->first = it->count = it->room = 0;
     it->given = it->sent = it->asked = it->replies = 0;

@@ -65,7 +65,7 @@ struct client {
     client *next, *previous; /* all clients of the thread */
     client *next_dirty, *next_troubled, *next_dead;
     buffer in, out;
-    scan scan;
+    slotroute_progress progress;
     request *first, *last; /* in the order of their replies */
     size_t queued, queued_bytes;
     size_t reply_len; /* of its replies, about: those of late count most */
@@ -108,7 +108,7 @@ struct node {
     uint16_t port, number; /* number: its place in `nodes` of its thread */
     node_state state;
     buffer in, out;
-    scan scan;
+    slotroute_progress progress;
     waiter *queue; /* a ring */
     size_t first, count, room;
     uint64_t given, sent, replies;  /* bytes put into `out` and bytes written, and replies read, since it was opened */
