@@ -11,26 +11,40 @@ import sys
 from ctypes import POINTER, byref, c_char, c_char_p, c_size_t, c_uint16, c_uint32, c_uint64
 from itertools import pairwise
 
-TOO_SMALL, REQUEST_INCOMPLETE, REPLY_INCOMPLETE, REPLY_IS_ERROR, NO_REDIRECT = 2, 3, 7, 10, 15
-TO_SLOT, TO_ALL, TO_ALL_PRIMARIES, TO_SLOTS = 3, 4, 5, 6
+# Codes of `Refused.answer`, kinds of `route`, policies and kinds of `redirect`, as in the header.
+DONE, NO_MEMORY, TOO_SMALL, REQUEST_INCOMPLETE, REQUEST_MALFORMED, AFTER_REQUEST = range(6)
+NOT_MULTI_KEY, REPLY_INCOMPLETE, REPLY_MALFORMED, REPLY_TOO_DEEP, REPLY_IS_ERROR = range(6, 11)
+AFTER_REPLIES, UNFIT, NO_FORM, NOT_TEXT, NO_REDIRECT, LINE_FEED_IN_HOST = range(11, 17)
+NOT_ROUTABLE, NOT_COVERED, BAD_NAME = range(17, 20)
+GOES_NOWHERE, TO_ANY, TO_ANY_PRIMARY, TO_SLOT, TO_ALL, TO_ALL_PRIMARIES, TO_SLOTS = range(7)
+PRIMARY, REPLICA_OPTIONAL, REPLICA = range(3)
+NO_POLICY, ONE_SUCCEEDED, FIRST_NOT_EMPTY, ALL_SUCCEEDED, BITS_AND, BITS_OR = range(6)
+LEAST, SUM, ARRAYS, SPECIAL, MAPS = range(6, 11)
+MOVED, ASK = 1, 2
 SLOTS, NO_NODE = 16384, 65535
 BYTES_IN = [c_char_p, c_size_t]
 BYTES_OUT = [c_char_p, c_size_t]
 
 
-class Told(ctypes.Structure):
+class Fields(ctypes.Structure):
+    def __repr__(self):
+        fields = ", ".join(f"{name}={getattr(self, name)}" for name, _ in self._fields_)
+        return f"{type(self).__name__}({fields})"
+
+
+class Told(Fields):
     _fields_ = [(name, c_size_t) for name in ("parts", "bytes", "reply", "at", "request", "batch")]
 
 
-class Routed(ctypes.Structure):
+class Routed(Fields):
     _fields_ = [(name, c_uint32) for name in ("kind", "slot", "addr", "policy")]
 
 
-class Redirected(ctypes.Structure):
+class Redirected(Fields):
     _fields_ = [(name, c_uint32) for name in ("kind", "slot", "port")] + [("host_len", c_size_t)]
 
 
-class Progress(ctypes.Structure):
+class Progress(Fields):
     """How far `scan` has come in a message. A new message begins with `Progress()`."""
 
     _fields_ = [("bytes", c_size_t), ("searched", c_size_t), ("after", c_uint64)]
@@ -46,11 +60,11 @@ class Refused(Exception):
 
 
 class Library:
-    """The calls of the library. `names` is a text of lines that register a module's commands, as
-    `multi keys sum COUNTKEYS`. The header says what a line has."""
+    """The calls of the library. Requests and replies are `bytes`. `names` has lines that register a
+    module's commands, as `b"multi keys sum COUNTKEYS"`. A bad line is refused at once."""
 
     def __init__(self, path, names=b""):
-        self.names = names, len(names)
+        self.names = bytes(names), len(names)
         lib = self.lib = ctypes.CDLL(path)
         told = [POINTER(Told)]
         slots, ends = [POINTER(c_uint16), c_size_t], [POINTER(c_size_t), c_size_t]
@@ -72,6 +86,7 @@ class Library:
         ):
             call = getattr(lib, "slotroute_" + name)
             call.argtypes, call.restype = takes, gives
+        self.route(request("PING"))
 
     def message(self, answer):
         text = ctypes.create_string_buffer(100)
@@ -95,7 +110,8 @@ class Library:
 
     def scan(self, data, progress):
         """How many bytes the first message has, or None if more are needed. Then call again with all
-        bytes and the same progress: it goes on where it stopped. A bytearray is not copied."""
+        bytes and the same progress: it goes on where it stopped. After a whole message, begin with a
+        new `Progress()`. A bytearray is not copied."""
         answer = self.lib.slotroute_scan(self._start(data), len(data), byref(progress))
         if answer == REPLY_INCOMPLETE:
             return None
@@ -104,7 +120,7 @@ class Library:
 
     @staticmethod
     def _start(data):
-        return data if isinstance(data, bytes) else byref(c_char.from_buffer(data))
+        return bytes(data) if isinstance(data, bytes) or not data else byref(c_char.from_buffer(data))
 
     def _len(self, call, data, incomplete):
         told = Told()
@@ -161,7 +177,9 @@ class Library:
 
     def split_pipeline(self, requests, numbers):
         """The batches of requests that stand one after the other: for each the number of its node,
-        how many commands it has, and its bytes. `numbers` are those of `slot_numbers`."""
+        how many commands it has, and its bytes. `numbers` are those of `table`, or of `slot_numbers`,
+        which saves making them anew."""
+        numbers = slot_numbers(numbers)
         batches, room, told = 16, 2 * len(requests) + 64, Told()
         while True:
             nodes, counts, ends = (c_uint16 * batches)(), (c_size_t * batches)(), (c_size_t * batches)()
@@ -180,7 +198,7 @@ class Library:
 
     def combine_pipeline(self, requests, numbers, replies):
         """The replies to the requests, by the replies to the batches, batch after batch."""
-        replies = b"".join(replies)
+        numbers, replies = slot_numbers(numbers), b"".join(replies)
         data = requests, len(requests), *self.names, numbers, len(numbers), replies, len(replies)
         return self._written(self.lib.slotroute_combine_pipeline, data, len(replies) + 64)
 
@@ -214,7 +232,7 @@ class Library:
 
 def slot_numbers(numbers):
     """A table's numbers as the calls of pipelines take them."""
-    return (c_uint16 * SLOTS)(*numbers)
+    return (c_uint16 * SLOTS)(*numbers) if isinstance(numbers, list) else numbers
 
 
 def request(*words):

@@ -1,5 +1,5 @@
 -- The lines that register a name: `multi PATTERN POLICY NAME`, or `NAME WORD` for one of two.
-use Rattle.std.specs.Prelude.{◌≡◌, ℕ, List, [], ◌∷◌, ◌++◌, ◌==◌, if◌then◌else◌, Option, None, Some, codes, filter, length, map, nat_lt}
+use Rattle.std.specs.Prelude.{◌≡◌, ℕ, List, [], ◌∷◌, ◌++◌, ◌==◌, ◌||◌, if◌then◌else◌, Option, None, Some, codes, filter, length, map, nat_lt}
 use Rattle.std.specs.List.{slice_split}
 use Rattle.std.specs.Str.{bytes_eq}
 use Rattle.cluster_slots.specs.declared.aggregate_op.AggregateOp.TheVariants.{Sum}
@@ -18,13 +18,17 @@ use Rattle.redis_bytes.specs.declared.fault.BytesFault.TheVariants.{Memory, BadN
 abbrev pub space : ℕ
 space = 32
 
+abbrev pub carriage_return : ℕ
+carriage_return = 13
+
 -- the fields of a line: the longest runs of bytes other than space
 abbrev pub fields_of : List ℕ → List (List ℕ)
 fields_of line = filter (λ f. nat_lt 0 (length f)) (slice_split (λ b. b == space) line)
 
 -- the lines of a text that are not empty
-abbrev pub lines_of : List ℕ → List (List ℕ)
-lines_of text = filter (λ l. nat_lt 0 (length l)) (slice_split (λ b. b == line_feed) text)
+abbrev pub filled_lines : List ℕ → List (List ℕ)
+filled_lines text = filter (λ l. nat_lt 0 (length l))
+    (slice_split (λ b. b == line_feed || b == carriage_return) text)
 
 abbrev pub multi_word : List ℕ
 multi_word = codes "multi"
@@ -79,7 +83,7 @@ Register (line ∷ lines) old new =
 
 -- the fields of each line of a text that is not empty
 abbrev pub name_lines : List ℕ → List (List (List ℕ))
-name_lines text = map fields_of (lines_of text)
+name_lines text = map fields_of (filled_lines text)
 
 -- the names that the lines of a text register
 abbrev pub AreNamesIn : List ℕ → Registrations → Type 0

@@ -1,7 +1,7 @@
 ghost use Rattle.std.specs.Prelude.{◌≡◌, true, false, map, option_map, IfOk, IfErr};
 ghost use Rattle.redis_routing.specs.Lookup.{lookup_name};
 ghost use Rattle.redis_routing.specs.Registry.{Registrations};
-ghost use Rattle.redis_bytes.specs.NameLines.{AreNamesIn, HasNoNames, Registers, fields_of, lines_of, pattern_words, policy_words, name_of_words};
+ghost use Rattle.redis_bytes.specs.NameLines.{AreNamesIn, HasNoNames, Registers, fields_of, filled_lines, pattern_words, policy_words, name_of_words};
 
 use crate::fault::BytesFault;
 use cluster_slots::{AggregateOp, MultiSlotArgPattern};
@@ -11,14 +11,14 @@ use std::alloc::{AllocError, Global};
 /// The names that the lines of a text register. The line `multi keys sum COUNTKEYS` registers
 /// `COUNTKEYS`, whose arguments are keys and whose reply is a sum.
 ///
-/// A line has the fields `multi PATTERN POLICY NAME`, with spaces between them, and ends with `\n`.
-/// PATTERN is `keys`, `pairs`, `last` or `triples`, and POLICY is `ok`, `sum` or `list`. A name of
-/// two words takes two fields. Empty lines register nothing, and are not counted.
+/// A line has the fields `multi PATTERN POLICY NAME`, with spaces between them, and ends with `\n` or
+/// `\r\n`. PATTERN is `keys`, `pairs`, `last` or `triples`, and POLICY is `ok`, `sum` or `list`. A
+/// name of two words takes two fields. Empty lines register nothing, and are not counted.
 ///
 /// # Errors
 ///
-/// `BadName` for the first line that registers no name, as one that the tables have. `Memory` if
-/// memory runs out.
+/// `BadName` for the first line that registers no name, as one that the tables have, or an earlier
+/// line. `Memory` if memory runs out.
 pub fn registry_in(alloc: Global, text: &[u8]) -> Result<Registry, BytesFault>
     // Each line registers its name.
     ensures names { IfOk result (λ registry. AreNamesIn text.now registry) }
@@ -51,9 +51,9 @@ pub fn fields_in(alloc: Global, line: &[u8]) -> Result<Vec<&[u8]>, AllocError>
 
 /// The lines of a text that are not empty.
 fn lines_in(alloc: Global, text: &[u8]) -> Result<Vec<&[u8]>, AllocError>
-    ensures { IfOk result (λ lines. map (λ line. line.now) lines.items ≡ lines_of text.now) }
+    ensures { IfOk result (λ lines. map (λ line. line.now) lines.items ≡ filled_lines text.now) }
 {
-    text.split(|byte| *byte == b'\n')
+    text.split(|byte| *byte == b'\n' || *byte == b'\r')
         .filter(|line| !line.is_empty())
         .collect(alloc)
 }

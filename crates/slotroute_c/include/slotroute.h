@@ -139,10 +139,11 @@ typedef struct slotroute_routed {
 
 /* Five calls take names: a text that registers commands of a module that are split by slot, or
  * nothing. A line has four fields, with spaces between them: multi PATTERN POLICY NAME. A name of two
- * words takes two fields. PATTERN says how the arguments make keys: keys, pairs (a key and a value),
+ * words takes two fields. No name is registered twice. PATTERN says how the arguments make keys: keys, pairs (a key and a value),
  * last (keys, and one argument for all), triples. POLICY says how the replies make one: ok, sum or
- * list. So `multi keys sum COUNTKEYS` registers a command that is split as DEL. A name that the
- * library knows, as MGET, is refused with SLOTROUTE_BAD_NAME. Each call reads the text anew. */
+ * list. So `multi keys sum COUNTKEYS` registers a command that is split as DEL. A name of the
+ * library's tables, as MGET, is refused with SLOTROUTE_BAD_NAME. Empty lines are not counted. Each
+ * call reads the text anew. */
 
 /* Where a request goes. only_reads is not 0 if its command only reads, so that a replica may serve
  * it. A command that names a slot by its number, as CLUSTER ADDSLOTS 5, goes to the primary either
@@ -231,7 +232,7 @@ typedef struct slotroute_redirected {
 /* Reads the text of an error, as MOVED 3999 127.0.0.1:6381: the reply without its mark and its
  * line's end. answering is the host of the node that sent the error, for a text without a host. A
  * text whose host is `?` is no redirect. host gets the host, and redirected the rest.
- * redirected->host_len is set also if the buffer is too small. */
+ * redirected is set also if the buffer is too small. */
 uint32_t slotroute_redirect(const uint8_t *text, size_t text_len,
                             const uint8_t *answering, size_t answering_len,
                             uint8_t *host, size_t host_len, slotroute_redirected *redirected);

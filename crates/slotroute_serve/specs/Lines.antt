@@ -1,11 +1,8 @@
 -- The lines of the input, and their fields.
 use Rattle.std.specs.Prelude.{◌≡◌, ◌≤◌, ℕ, ◌+◌, zero, suc, List, [], ◌∷◌, ◌++◌, ◌==◌, if◌then◌else◌, length, map}
 use Rattle.std.specs.Io.BufRead.{strip_last, first_piece, drop_through}
-use Rattle.redis_bytes.specs.NameLines.{fields_of}
+use Rattle.redis_bytes.specs.NameLines.{carriage_return, fields_of}
 use Rattle.redis_bytes.specs.Table.{line_feed}
-
-abbrev pub carriage_return : ℕ
-carriage_return = 13
 
 -- a byte at the front of the first line
 abbrev pub onto_first_line : ℕ → List (List ℕ) → List (List ℕ)
