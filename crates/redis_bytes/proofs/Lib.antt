@@ -10,3 +10,4 @@ pub mod Arrays
 pub mod Combined
 pub mod Unsplit
 pub mod PartNumbers
+pub mod KeysByPart
