@@ -12,3 +12,4 @@ pub mod Arrays
 pub mod Combined
 pub mod Unsplit
 pub mod PartNumbers
+pub mod KeysByPart

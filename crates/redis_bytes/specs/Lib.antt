@@ -1,3 +1,4 @@
+pub mod Numbers
 pub mod Requests
 pub mod Replies
 pub mod Merged
