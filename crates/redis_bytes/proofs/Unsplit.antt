@@ -80,3 +80,4 @@ unread_unjoined split bytes (faults.AfterReplies n) are = are
 unread_unjoined split bytes (faults.Unfit kind) are = absurd are.next
 unread_unjoined split bytes faults.NoForm are = absurd are.next
 unread_unjoined split bytes faults.LineFeedInHost are = are
+unread_unjoined split bytes (faults.BadName _) are = are
