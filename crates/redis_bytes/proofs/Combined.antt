@@ -1,6 +1,6 @@
 -- One array of the items of the parts, in the order of the keys, is what the command combines.
-use Rattle.std.proofs.Common.{◌≡◌, ℕ, suc, ◌<◌, ◌≤◌, List, [], ◌∷◌, inl, inr, true, false, Some, length, get_or, refl, sym, ap, ◌∙◌, arith, Option, None, Result, Ok, Err}
-use Rattle.std.specs.Prelude.{nat_eq, slice_get, IfOk, IfSome}
+use Rattle.std.proofs.Common.{◌≡◌, ℕ, suc, ◌<◌, ◌≤◌, List, [], ◌∷◌, inl, inr, true, false, Some, length, get_or, refl, sym, ap, ◌∙◌, arith}
+use Rattle.std.specs.Prelude.{nat_eq, slice_get}
 use Rattle.std.specs.List.{AllZip}
 use Rattle.std.proofs.lemmas.Bool.{cases_lt, eq-eqb, eqb-false, eqb-true, ne_eqb}
 use Rattle.std.proofs.lemmas.List.{length-map}
@@ -19,8 +19,7 @@ use Rattle.redis_cluster.specs.Plan.{tuples_in_split}
 use Rattle.redis_cluster.specs.SlotItems.{items_of_slot}
 use Rattle.redis_cluster.proofs.Once.{twice}
 use Rattle.redis_cluster.proofs.SplitTuples.{is_split_to}
-use Rattle.redis_bytes.specs.Merged.{IsOneArray, arrays_of}
-use Rattle.redis_bytes.specs.Numbers.{ArePlaces}
+use Rattle.redis_bytes.specs.Merged.{ArePlaces, IsOneArray, arrays_of}
 use Rattle.redis_bytes.specs.Replies.{AreCombined}
 
 -- a number that stands in a list once at most has one place there
@@ -101,9 +100,3 @@ one_array_combined split held policy places are bytes combined one =
       made = record { each = as_many; form = list; form_is = ap form_by_policy policy; outcome_is = (values, merged, refl) };
       written = one.written;
     }
-
--- what is found has another property if it has one
-pub weaker : {A E : Type 0} (P Q : A → Type 0) (r : Result (Option A) E) → ((x : A) → P x → Q x) → IfOk r (λ o. IfSome o P) → IfOk r (λ o. IfSome o Q)
-weaker P Q (Ok (Some x)) f h = f x h
-weaker P Q (Ok None) f h = h
-weaker P Q (Err e) f h = h

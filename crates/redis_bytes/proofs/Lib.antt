@@ -12,4 +12,3 @@ pub mod Arrays
 pub mod Combined
 pub mod Unsplit
 pub mod PartNumbers
-pub mod KeysByPart

@@ -1,5 +1,5 @@
 -- What the replies to the parts of one command make is the reply to the command.
-use Rattle.std.proofs.Common.{◌≡◌, ℕ, List, [], ◌∷◌, ◌++◌, Result, Ok, Err, length, refl, sym, ap, subst, ◌∙◌, arith}
+use Rattle.std.proofs.Common.{◌≡◌, ℕ, List, [], ◌∷◌, ◌++◌, Result, Ok, length, refl, sym, ap, subst, ◌∙◌, arith}
 use Rattle.std.proofs.lemmas.List.{length-map}
 use Rattle.resp_core.specs.Reply.{Reply}
 use Rattle.resp.specs.Reading.{answer_at}
@@ -11,9 +11,7 @@ use Rattle.redis_cluster.specs.Plan.{ArePartsAnswered, IsMadeOfParts, tuples_in_
 use Rattle.redis_cluster.specs.SlotItems.{items_of_slot}
 use Rattle.redis_cluster.specs.Unsplit.{TupleResult, reply_by}
 use Rattle.redis_cluster.proofs.Joined.{outcome_is_unsplit}
-use Rattle.redis_bytes.specs.Replies.{AreReplies, AreCombined, AreUnread, IsReply, IsUnjoined}
-use Rattle.redis_bytes.specs.declared.fault.BytesFault.{BytesFault}
-use Rattle.redis_bytes.specs.declared.fault.BytesFault.TheVariants as faults
+use Rattle.redis_bytes.specs.Replies.{AreReplies, AreCombined, IsReply}
 use Rattle.resp_core.specs.declared.error.ErrorKind.{ErrorKind}
 use Rattle.resp.specs.Forms.{Answer, form}
 use Rattle.resp.specs.declared.fault.Fault.{Fault}
@@ -27,7 +25,7 @@ found answer rest = Ok (answer, rest)
 abbrev same_pair : Answer → List ℕ → Answer × List ℕ
 same_pair answer rest = (answer, rest)
 
-abbrev pub made_of : Reply → Result Reply ErrorKind
+abbrev made_of : Reply → Result Reply ErrorKind
 made_of reply = Ok reply
 
 same_found : (r s : Reply) (rest more : List ℕ) → found (value_of r) rest ≡ found (value_of s) more → (r ≡ s) × (rest ≡ more)
@@ -51,10 +49,10 @@ one_reading (r ∷ rs) (s ∷ ss) bytes same are too =
     let first = one_reply r s are.0 too.0 are.1 too.1 are.3 too.3 (sym are.2 ∙ too.2) in
     ap (λ x. x ∷ rs) first.0 ∙ ap (λ xs. s ∷ xs) (one_reading rs ss too.1 (omega (arith, same)) (subst (AreReplies rs) first.1 are.4) too.4)
 
-pub same_value : (r s : Reply) → made_of r ≡ made_of s → r ≡ s
+same_value : (r s : Reply) → made_of r ≡ made_of s → r ≡ s
 same_value r s e = cc
 
-pub as_many : (split : Split) (form : ReplyForm) (results : List TupleResult) (replies : List Reply) → ArePartsAnswered split form results replies → length replies ≡ length split.routes
+as_many : (split : Split) (form : ReplyForm) (results : List TupleResult) (replies : List Reply) → ArePartsAnswered split form results replies → length replies ≡ length split.routes
 as_many split form results replies are =
     ap length are.replies_are ∙ length-map (slots_of split.routes) (λ slot. reply_by form (items_of_slot slot (tuples_in_split split) results)) ∙ length-map split.routes (λ r. r.0.slot)
 
@@ -64,20 +62,3 @@ combined_unsplit split held bytes combined are reply_form results parts answered
     let same = one_reading are.replies parts bytes (are.answered.all ∙ sym (as_many split reply_form results parts answered)) are.answered.are read in
     let made = subst (λ rs. IsMadeOfParts split rs (Ok are.one)) same are.made in
     are.written ∙ ap form (same_value are.one (reply_by reply_form results) (outcome_is_unsplit split reply_form results parts (Ok are.one) held answered made))
-
-pub no_refusal : (r : Reply) (kind : ErrorKind) → Err kind ≡ made_of r → ⊥
-no_refusal r kind e = absurd cc
-
--- replies that cannot be read are not joined
-pub unread_unjoined : (split : Split) (bytes : List ℕ) (fault : BytesFault) → AreUnread (length split.routes) bytes fault → IsUnjoined split bytes fault
-unread_unjoined split bytes faults.Memory are = are
-unread_unjoined split bytes (faults.Request f) are = are
-unread_unjoined split bytes (faults.AfterRequest n) are = are
-unread_unjoined split bytes faults.NotMultiKey are = are
-unread_unjoined split bytes (faults.Reply n f) are = are
-unread_unjoined split bytes (faults.Error n text) are = are
-unread_unjoined split bytes (faults.AfterReplies n) are = are
-unread_unjoined split bytes (faults.Unfit kind) are = absurd are.next
-unread_unjoined split bytes faults.NoForm are = absurd are.next
-unread_unjoined split bytes faults.LineFeedInHost are = are
-unread_unjoined split bytes (faults.BadName _) are = are

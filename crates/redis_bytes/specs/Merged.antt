@@ -1,10 +1,21 @@
 -- One array of the items of several, by the number of the array that each item is in.
 use Rattle.std.specs.Prelude.{◌≡◌, ◌<◌, ◌+◌, ℕ, List, [], map, length, get_or, slice_get, slice_index, slice_set, Some}
-use Rattle.std.specs.List.{slice_range}
+use Rattle.std.specs.List.{AllZip, slice_range}
 use Rattle.resp_core.specs.Reply.{Reply, array, replies_of}
 use Rattle.resp.specs.Forms.{form}
+use Rattle.cluster_slots.specs.KeySlot.{key_slot}
 use Rattle.redis_combiners.specs.ByPlaces.{items_of_index}
+use Rattle.redis_routing.specs.Split.{Split, slots_of}
+use Rattle.redis_cluster.specs.Plan.{tuples_in_split}
 use Rattle.redis_bytes.specs.Replies.{AreReplies}
+
+-- For each key the number of the part that has it: the number of the route to the key's slot.
+--
+-- `MGET a b {a}c`: 0, 1, 0
+abbrev pub ArePlaces : Split → List ℕ → Type 0
+ArePlaces split places = AllZip
+    (λ place tuple. slice_get (slots_of split.routes) place ≡ Some (key_slot tuple.key))
+    places (tuples_in_split split)
 
 -- arrays of these items
 abbrev pub arrays_of : List (List Reply) → List Reply

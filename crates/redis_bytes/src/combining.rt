@@ -1,20 +1,25 @@
-ghost use Rattle.std.specs.Prelude.{◌≡◌, ◌⊎◌, List, IfOk, IfErr, MatchResult};
+ghost use Rattle.std.specs.Prelude.{◌≡◌, ◌≢◌, ◌⊎◌, List, Ok, IfOk, IfErr, IfSome, MatchResult};
 ghost use Rattle.resp.specs.Forms.{form};
 ghost use Rattle.resp_core.specs.Reply.{Reply};
+ghost use Rattle.resp_core.specs.View.{view};
 ghost use Rattle.redis_routing.specs.Names.{names_in};
-ghost use Rattle.redis_routing.specs.Split.{Split};
+ghost use Rattle.redis_routing.specs.Split.{Split, IsSplit};
 ghost use Rattle.redis_cluster.specs.MultiKey.{ReplyForm};
 ghost use Rattle.redis_cluster.specs.Unsplit.{TupleResult, reply_by};
 ghost use Rattle.redis_cluster.specs.Plan.{ArePartsAnswered};
 ghost use Rattle.redis_bytes.specs.Requests.{IsSplitRequest};
 ghost use Rattle.redis_bytes.specs.Replies.{AreReplies, AreCombined, HasNoForm, IsUnjoined, IsUncombined};
 
-use crate::by_numbers::combine_parts;
 use crate::fault::BytesFault;
+use crate::merging::merged;
 use crate::places::places_in;
+use crate::replies::replies_in;
 use crate::requests::command_in;
-use redis_routing::{Names, Routable, SplitCommand};
-use std::alloc::Global;
+use redis_cluster::driver::join_replies;
+use redis_routing::{Names, ResponsePolicy, Routable, SplitCommand};
+use resp::{WriteError, write};
+use resp_core::{ErrorKind, RedisError, Value};
+use std::alloc::{AllocError, Global};
 
 /// The one reply to a request, by the replies to its parts. `replies` has them in the order of the
 /// parts, in whatever order they came. If the parts of `DEL foo bar baz` returned `:1`, `:0` and
@@ -70,6 +75,73 @@ fn joined<R: Routable>(
         ⊎ ((fault ≡ BytesFault.NoForm) × HasNoForm (reply_by reply_form results))) }
     ensures fault { IfErr result (λ fault. IsUnjoined split.now replies.now fault) }
 {
-    let places = places_in(alloc, split)?;
-    combine_parts(alloc, split.policy(), split.len(), &places, replies)
+    match moved(alloc, split, replies)? {
+        Some(one) => Ok(one),
+        None => by_values(alloc, split, replies),
+    }
+}
+
+/// The one reply to a split command, by the values of the replies to its parts.
+fn by_values<R: Routable>(
+    alloc: Global,
+    split: &SplitCommand<'_, R>,
+    replies: &[u8],
+) -> Result<Vec<u8>, BytesFault>
+    ensures combined { IfOk result (λ combined. AreCombined split.now replies.now combined.items) }
+    ensures unsplit { (reply_form : ReplyForm) (results : List TupleResult) (parts : List Reply)
+        → ArePartsAnswered split.now reply_form results parts → AreReplies parts replies.now
+        → MatchResult result (λ combined. combined.items ≡ form (reply_by reply_form results))
+        (λ fault. (fault ≡ BytesFault.Memory)
+        ⊎ ((fault ≡ BytesFault.NoForm) × HasNoForm (reply_by reply_form results))) }
+    ensures fault { IfErr result (λ fault. IsUnjoined split.now replies.now fault) }
+{
+    let values = replies_in(alloc, split.len(), replies)?;
+    match join_replies(alloc, split, values) {
+        Ok(one) => written(alloc, &one),
+        Err(error) => Err(unfit(&error)),
+    }
+}
+
+/// The one reply to a split command for a list, if the items of the replies can be moved as bytes.
+fn moved<R: Routable>(
+    alloc: Global,
+    split: &SplitCommand<'_, R>,
+    replies: &[u8],
+) -> Result<Option<Vec<u8>>, AllocError>
+    ensures combined { IfOk result (λ one. IfSome one
+        (λ bytes. AreCombined split.now replies.now bytes.items)) }
+    ensures split { IfOk result (λ one. IfSome one (λ bytes. IsSplit split.now)) }
+{
+    match split.policy() {
+        ResponsePolicy::CombineArrays => {
+            let places = places_in(alloc, split)?;
+            merged(alloc, split.len(), &places, replies)
+        }
+        _ => Ok(None),
+    }
+}
+
+/// The bytes of the one reply.
+fn written(alloc: Global, one: &Value) -> Result<Vec<u8>, BytesFault>
+    ensures bytes { IfOk result (λ bytes. bytes.items ≡ form (view one.now)) }
+    ensures fault { IfErr result (λ fault. (fault ≡ BytesFault.Memory)
+        ⊎ ((fault ≡ BytesFault.NoForm) × HasNoForm (view one.now))) }
+{
+    match write(alloc, one) {
+        Ok(bytes) => Ok(bytes),
+        Err(WriteError::Memory) => Err(BytesFault::Memory),
+        Err(WriteError::NoForm) => Err(BytesFault::NoForm),
+    }
+}
+
+/// The fault of replies that are not joined.
+fn unfit(error: &RedisError) -> BytesFault
+    ensures { ((error.now.kind ≡ ErrorKind.OutOfMemory) × (result ≡ BytesFault.Memory))
+        ⊎ ((error.now.kind ≢ ErrorKind.OutOfMemory)
+        × (result ≡ BytesFault.Unfit error.now.kind)) }
+{
+    match error.kind() {
+        ErrorKind::OutOfMemory => BytesFault::Memory,
+        kind => BytesFault::Unfit(kind),
+    }
 }

@@ -1,7 +1,6 @@
 //! Routes requests, splits them and combines replies, all as bytes of the Redis protocol.
 #![tactic(auto)]
 
-mod by_numbers;
 mod combining;
 mod fault;
 mod merging;

@@ -3,7 +3,7 @@ ghost use Rattle.std.specs.List.{AllZip, sum_by};
 ghost use Rattle.redis_combiners.specs.KeyPlaces.{own_arguments, places};
 ghost use Rattle.redis_cluster.specs.Orders.{times};
 ghost use Rattle.redis_routing.specs.Split.{IsSplit};
-ghost use Rattle.redis_bytes.specs.Numbers.{ArePlaces};
+ghost use Rattle.redis_bytes.specs.Merged.{ArePlaces};
 
 use cluster_slots::{MultiSlotArgPattern, Route};
 use redis_routing::{Routable, SplitCommand};
