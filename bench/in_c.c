@@ -16,15 +16,31 @@ static double now(void) {
     return (double)time.tv_sec * 1e9 + (double)time.tv_nsec;
 }
 
-/* The least time of a call, in rounds of so many calls. */
+/* A round of so many calls, which may be the least. */
+#define ROUND(least, times, call)                                    \
+    do {                                                             \
+        double start = now();                                        \
+        for (size_t n = 0; n < (times); n++) { call; }               \
+        double each = (now() - start) / (double)(times);             \
+        if (each < least) least = each;                              \
+    } while (0)
+
+#define ROUNDS 25
+
+/* The least time of a call. */
 #define LEAST(least, times, call)                                    \
     do {                                                             \
         least = 1e18;                                                \
-        for (int round = 0; round < 25; round++) {                   \
-            double start = now();                                    \
-            for (size_t n = 0; n < (times); n++) { call; }           \
-            double each = (now() - start) / (double)(times);         \
-            if (each < least) least = each;                          \
+        for (int round = 0; round < ROUNDS; round++) ROUND(least, times, call); \
+    } while (0)
+
+/* The least times of two calls, whose rounds take turns. */
+#define IN_TURN(own, other, times, own_call, other_call)             \
+    do {                                                             \
+        own = other = 1e18;                                          \
+        for (int round = 0; round < ROUNDS; round++) {               \
+            ROUND(own, times, own_call);                             \
+            ROUND(other, times, other_call);                         \
         }                                                            \
     } while (0)
 
@@ -103,8 +119,9 @@ static void time_reading(void) {
     for (size_t items = 1; items <= 1000; items *= 10) {
         text reply = array_of(items);
         slotroute_told told = {0};
-        LEAST(own, 20000 / items + 1, sink += slotroute_reply_len(reply.bytes, reply.len, &told));
-        LEAST(rust, 20000 / items + 1, sink += careful_reply_len(reply.bytes, reply.len));
+        IN_TURN(own, rust, 20000 / items + 1,
+                sink += slotroute_reply_len(reply.bytes, reply.len, &told),
+                sink += careful_reply_len(reply.bytes, reply.len));
         LEAST(other, 20000 / items + 1, sink += read_by_hiredis(&reply));
         row("slotroute_reply_len (hiredis: read it)", items, own, rust, other);
         free(reply.bytes);
@@ -156,17 +173,17 @@ static void time_splitting(void) {
             words[i] = i == 0 ? "DEL" : "key:1234567";
             lens[i] = strlen(words[i]);
         }
-        LEAST(own, 20000 / keys + 1,
-              sink += slotroute_split(request.bytes, request.len, NULL, 0, to.slots, keys, to.ends, keys,
-                                      to.out.bytes, to.room, &told));
-        LEAST(rust, 20000 / keys + 1,
-              rust_len = careful_split(request.bytes, request.len, in_rust.slots, in_rust.ends, keys,
-                                       in_rust.out.bytes, in_rust.room));
+        IN_TURN(own, rust, 20000 / keys + 1,
+                sink += slotroute_split(request.bytes, request.len, NULL, 0, to.slots, keys, to.ends, keys,
+                to.out.bytes, to.room, &told),
+                rust_len = careful_split(request.bytes, request.len, in_rust.slots, in_rust.ends, keys,
+                in_rust.out.bytes, in_rust.room));
         same("split", to.out.bytes, told.bytes, in_rust.out.bytes, rust_len);
         LEAST(other, 20000 / keys + 1, sink += format_by_hiredis(keys, told.parts, words, lens));
         row("slotroute_split of a DEL (hiredis: write its parts)", keys, own, rust, other);
-        LEAST(own, 20000 / keys + 1, sink += slotroute_request_len(request.bytes, request.len, &told));
-        LEAST(rust, 20000 / keys + 1, sink += careful_reply_len(request.bytes, request.len));
+        IN_TURN(own, rust, 20000 / keys + 1,
+                sink += slotroute_request_len(request.bytes, request.len, &told),
+                sink += careful_reply_len(request.bytes, request.len));
         LEAST(other, 20000 / keys + 1, sink += read_by_hiredis(&request));
         row("slotroute_request_len (hiredis: read it)", keys, own, rust, other);
         free(request.bytes);
@@ -198,12 +215,11 @@ static void time_combining(void) {
         slotroute_split(request.bytes, request.len, NULL, 0, to.slots, keys, to.ends, keys, to.out.bytes,
                         to.room, &told);
         text replies = replies_to(&to, told.parts, keys);
-        LEAST(own, 20000 / keys + 1,
-              sink += slotroute_combine(request.bytes, request.len, NULL, 0, replies.bytes, replies.len,
-                                        to.out.bytes, to.room, &told));
-        LEAST(rust, 20000 / keys + 1,
-              rust_len = careful_combine(request.bytes, request.len, replies.bytes, replies.len,
-                                         in_rust.out.bytes, in_rust.room));
+        IN_TURN(own, rust, 20000 / keys + 1,
+                sink += slotroute_combine(request.bytes, request.len, NULL, 0, replies.bytes, replies.len,
+                to.out.bytes, to.room, &told),
+                rust_len = careful_combine(request.bytes, request.len, replies.bytes, replies.len,
+                in_rust.out.bytes, in_rust.room));
         same("combine", to.out.bytes, told.bytes, in_rust.out.bytes, rust_len);
         row("slotroute_combine of an MGET", keys, own, rust, 0);
         free(request.bytes);
@@ -234,20 +250,18 @@ static void time_pipelines(void) {
         text requests, replies, out = some_room(commands * 64), in_rust = some_room(commands * 64);
         slotroute_told told = {0};
         make_pipeline(commands, &requests, &replies);
-        LEAST(own, 20000 / commands + 1,
-              sink += slotroute_split_pipeline(requests.bytes, requests.len, NULL, 0, numbers, SLOTROUTE_SLOTS,
-                                               nodes, 3, counts, 3, ends, 3, out.bytes, commands * 64, &told));
-        LEAST(rust, 20000 / commands + 1,
-              rust_len = careful_split_pipeline(requests.bytes, requests.len, numbers, rust_nodes, rust_counts,
-                                                rust_ends, 3, in_rust.bytes, commands * 64));
+        IN_TURN(own, rust, 20000 / commands + 1,
+                sink += slotroute_split_pipeline(requests.bytes, requests.len, NULL, 0, numbers, SLOTROUTE_SLOTS,
+                nodes, 3, counts, 3, ends, 3, out.bytes, commands * 64, &told),
+                rust_len = careful_split_pipeline(requests.bytes, requests.len, numbers, rust_nodes, rust_counts,
+                rust_ends, 3, in_rust.bytes, commands * 64));
         same("split_pipeline", out.bytes, told.bytes, in_rust.bytes, rust_len);
         row("slotroute_split_pipeline of SET", commands, own, rust, 0);
-        LEAST(own, 20000 / commands + 1,
-              sink += slotroute_combine_pipeline(requests.bytes, requests.len, NULL, 0, numbers, SLOTROUTE_SLOTS,
-                                                 replies.bytes, replies.len, out.bytes, commands * 64, &told));
-        LEAST(rust, 20000 / commands + 1,
-              rust_len = careful_combine_pipeline(requests.bytes, requests.len, numbers, replies.bytes,
-                                                  replies.len, in_rust.bytes, commands * 64));
+        IN_TURN(own, rust, 20000 / commands + 1,
+                sink += slotroute_combine_pipeline(requests.bytes, requests.len, NULL, 0, numbers, SLOTROUTE_SLOTS,
+                replies.bytes, replies.len, out.bytes, commands * 64, &told),
+                rust_len = careful_combine_pipeline(requests.bytes, requests.len, numbers, replies.bytes,
+                replies.len, in_rust.bytes, commands * 64));
         same("combine_pipeline", out.bytes, told.bytes, in_rust.bytes, rust_len);
         row("slotroute_combine_pipeline of SET", commands, own, rust, 0);
         free(requests.bytes);
