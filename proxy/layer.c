@@ -35,7 +35,8 @@ static bool number_in(const uint8_t *bytes, size_t len, size_t *at, int64_t *num
         return false;
     int64_t found = 0;
     bool is_less = bytes[*at] == '-';
-    for (const uint8_t *digit = bytes + *at + is_less; *digit >= '0' && *digit <= '9' && found < INT32_MAX; digit++)
+    for (const uint8_t *digit = bytes + *at + is_less; *digit >= '0' && *digit <= '9' && found < INT32_MAX;
+         digit++)
         found = 10 * found + (*digit - '0');
     *number = is_less ? -found : found;
     *at = (size_t)(end - bytes) + 1;
@@ -68,7 +69,8 @@ static bool may_be_whole(const uint8_t *bytes, size_t len, scan *scan) {
     return scan->at <= len;
 }
 
-static whole look(length_of length, uint32_t incomplete, const uint8_t *bytes, size_t len, scan *scan, size_t *end) {
+static whole look(length_of length, uint32_t incomplete, const uint8_t *bytes, size_t len, scan *scan,
+                  size_t *end) {
     slotroute_told told = {0};
     if (scan->at > 0 && !may_be_whole(bytes, len, scan))
         return IS_PIECE;
@@ -121,7 +123,8 @@ uint32_t layer_combine(const uint8_t *request, size_t len, uint32_t policy, size
     do {
         make_room(told.bytes, 1);
         answer = policy == SLOTROUTE_NO_POLICY
-                     ? slotroute_combine(request, len, buffer_at(replies), buffer_len(replies), out, out_room, &told)
+                     ? slotroute_combine(request, len, buffer_at(replies), buffer_len(replies), out, out_room,
+                                         &told)
                      : slotroute_combine_answers(policy, count, buffer_at(replies), buffer_len(replies), out,
                                                  out_room, &told);
     } while (answer == SLOTROUTE_TOO_SMALL);
@@ -138,8 +141,8 @@ static bool read_map(const buffer *reply, const char *host, uint32_t addr, size_
     uint32_t answer;
     do {
         make_room(told.bytes, 1);
-        answer = slotroute_table(buffer_at(reply), buffer_len(reply), (const uint8_t *)host, strlen(host), addr,
-                                 pick, numbers, SLOTROUTE_SLOTS, out, out_room, &told);
+        answer = slotroute_table(buffer_at(reply), buffer_len(reply), (const uint8_t *)host, strlen(host),
+                                 addr, pick, numbers, SLOTROUTE_SLOTS, out, out_room, &told);
     } while (answer == SLOTROUTE_TOO_SMALL);
     if (answer != SLOTROUTE_DONE || told.bytes == 0)
         return false;
@@ -169,8 +172,8 @@ bool layer_redirect(const uint8_t *error, size_t len, const char *answering, red
     uint8_t host[HOST_ROOM - 1] = {0};
     if (len < 3 || error[0] != '-')
         return false;
-    uint32_t answer = slotroute_redirect(error + 1, len - 3, (const uint8_t *)answering, strlen(answering), host,
-                                         sizeof host, &redirect->to);
+    uint32_t answer = slotroute_redirect(error + 1, len - 3, (const uint8_t *)answering, strlen(answering),
+                                         host, sizeof host, &redirect->to);
     if (answer != SLOTROUTE_DONE || memchr(host, 0, redirect->to.host_len) != NULL)
         return false;
     memcpy(redirect->host, host, redirect->to.host_len);

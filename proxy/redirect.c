@@ -11,11 +11,12 @@ static bool begins(const uint8_t *error, size_t len, const char *text) {
     return len >= strlen(text) && memcmp(error, text, strlen(text)) == 0;
 }
 
-/* Whether the error says that the command did nothing, and may do it after a while. A script can write such an
- * error itself, after effects. Commands after MULTI are not run yet, so their errors are as good. */
+/* Whether the error says that the command did nothing, and may do it after a while. A script can write such
+ * an error itself, after effects. Commands after MULTI are not run yet, so their errors are as good. */
 static bool is_pause(const request *request, const uint8_t *error, size_t len) {
-    return (!request->is_script || request->queued > 0) && (begins(error, len, "-TRYAGAIN ") || begins(error, len, "-CLUSTERDOWN ") ||
-                          begins(error, len, "-LOADING "));
+    return (!request->is_script || request->queued > 0) &&
+           (begins(error, len, "-TRYAGAIN ") || begins(error, len, "-CLUSTERDOWN ") ||
+            begins(error, len, "-LOADING "));
 }
 
 static void hold_for(request *request, uint32_t part, node *to, bool asking, uint64_t pause) {
