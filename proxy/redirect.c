@@ -1,6 +1,7 @@
 #include "order.h"
 
 #include "node.h"
+#include "request.h"
 #include "topology.h"
 
 #include <string.h>
@@ -44,11 +45,13 @@ bool redirect_follow(request *request, uint32_t part, node *from, const uint8_t 
         hold_for(request, part, NULL, false, PAUSE);
         return true;
     }
-    if (!begins(error, len, "-MOVED ") && !begins(error, len, "-ASK "))
+    bool is_redirect = begins(error, len, "-MOVED ") || begins(error, len, "-ASK ");
+    if (!is_redirect || !layer_redirect(error, len, from->host, &found) || found.to.slot != it->slot)
         return false;
-    if (!part_may_try(request, part) || !layer_redirect(error, len, from->host, &found) ||
-        found.to.slot != it->slot)
-        return false;
+    if (!part_may_try(request, part)) {
+        part_fail(request, part, "TRYAGAIN the nodes redirected the command for too long");
+        return true;
+    }
     node *to = node_at(worker, found.host, (uint16_t)found.to.port);
     if (to == NULL)
         return false;
