@@ -92,7 +92,8 @@ void client_free(client *it) {
 /* Whether another request may be read: the client takes its replies, and not too much is on the way. */
 static bool may_read(const client *it) {
     return !it->is_ending && !it->is_alone && it->doom == NULL && it->queued < MOST_QUEUED &&
-           buffer_len(&it->out) + it->queued * it->reply_len < MOST_UNREAD && it->queued_bytes < the_proxy.settings.client_memory / 4;
+           buffer_len(&it->out) + it->queued * it->reply_len < MOST_UNREAD &&
+           it->queued_bytes < the_proxy.settings.client_memory / 4;
 }
 
 /* Refuses a command, with its name. */
@@ -111,14 +112,16 @@ static bool take(client *it, const uint8_t *bytes, size_t len) {
     command_kind kind = command_of(bytes, len);
     words words = words_of(bytes, len);
     const char *refusal = command_refusal(kind);
-    bool is_taken = kind == COMMAND_TAKEN || kind == COMMAND_SPLIT || kind == COMMAND_SCRIPT || kind == COMMAND_STREAM;
+    bool is_taken =
+        kind == COMMAND_TAKEN || kind == COMMAND_SPLIT || kind == COMMAND_SCRIPT || kind == COMMAND_STREAM;
     bool is_about_subscriptions = kind == COMMAND_SUBSCRIPTION || (it->is_subscribed && kind == COMMAND_PING);
     if (words.left == 0)
         return true; /* a server does not answer a request of no words either */
     if (!it->is_known && kind != COMMAND_AUTH && kind != COMMAND_HELLO && kind != COMMAND_QUIT)
         request_answer_own(it, "-NOAUTH Authentication required.\r\n", 34);
     else if (it->is_subscribed && !is_about_subscriptions && kind != COMMAND_QUIT && kind != COMMAND_RESET)
-        request_refuse(it, "only (P)SUBSCRIBE, (P)UNSUBSCRIBE, PING, QUIT and RESET are allowed in this context");
+        request_refuse(it,
+                       "only (P)SUBSCRIBE, (P)UNSUBSCRIBE, PING, QUIT and RESET are allowed in this context");
     else if (kind == COMMAND_TRANSACTION)
         transaction_command(it, bytes, len);
     else if (it->is_multi && kind != COMMAND_QUIT && kind != COMMAND_RESET)
@@ -135,7 +138,8 @@ static bool take(client *it, const uint8_t *bytes, size_t len) {
     return true;
 }
 
-/* Takes the requests that have come whole, as far as the client may be read. Returns how many bytes they have. */
+/* Takes the requests that have come whole, as far as the client may be read. Returns how many bytes they
+ * have. */
 static size_t take_requests(client *it, const uint8_t *bytes, size_t len) {
     size_t used = 0, end = 0, most = it->is_known ? the_proxy.settings.max_message : STRANGER;
     while (used < len && may_read(it)) {
@@ -143,7 +147,8 @@ static size_t take_requests(client *it, const uint8_t *bytes, size_t len) {
         bool is_long = (found == IS_WHOLE ? end : len - used) > most;
         if (found == IS_MALFORMED || is_long) {
             char text[100];
-            snprintf(text, sizeof text, "Protocol error: a request of more than %llu bytes", (unsigned long long)most);
+            snprintf(text, sizeof text, "Protocol error: a request of more than %llu bytes",
+                     (unsigned long long)most);
             request_refuse(it, is_long ? text : "Protocol error: malformed request");
             client_end(it);
             return len;
@@ -155,7 +160,9 @@ static size_t take_requests(client *it, const uint8_t *bytes, size_t len) {
     return it->is_ending ? len : used;
 }
 
-static bool may_be_paused(const client *it) { return it->worker->is_pressed && (it->queued > 0 || buffer_len(&it->in) > 0); }
+static bool may_be_paused(const client *it) {
+    return it->worker->is_pressed && (it->queued > 0 || buffer_len(&it->in) > 0);
+}
 
 void client_event(client *it, uint32_t events) {
     if (it->peer.fd < 0)
@@ -225,7 +232,8 @@ void client_settle(client *it) {
     bool reads = !it->has_ended && (it->is_ending || may_read(it)) && !it->is_paused;
     bool writes = buffer_len(&it->out) > 0;
     bool waits = it->first != NULL && it->first->is_private;
-    peer_watch(it->worker, &it->peer, (reads ? EPOLLIN : 0u) | (writes ? EPOLLOUT : 0u) | (waits ? EPOLLRDHUP : 0u));
+    peer_watch(it->worker, &it->peer,
+               (reads ? EPOLLIN : 0u) | (writes ? EPOLLOUT : 0u) | (waits ? EPOLLRDHUP : 0u));
     client_check(it);
 }
 

@@ -18,7 +18,8 @@ void node_check(const node *node) {
         check_that(node->count == 0 || node->lost != NULL, "nobody waits on a closed connection");
     for (size_t at = 0; at < node->count; at++) {
         const waiter *it = &node->queue[(node->first + at) % node->room];
-        check_that(it->offset >= offset && it->offset <= node->given, "waiters are in the order of the stream");
+        check_that(it->offset >= offset && it->offset <= node->given,
+                   "waiters are in the order of the stream");
         offset = it->offset;
         if (it->waits != WAITS_PART)
             continue;

@@ -131,7 +131,8 @@ void listener_given(worker *worker) {
 static void answer(reader *it) {
     buffer text = {0};
     stats_prometheus(&text);
-    buffer_print(&it->out, "HTTP/1.0 200 OK\r\nContent-Type: text/plain; version=0.0.4\r\nContent-Length: %zu\r\n\r\n",
+    buffer_print(&it->out,
+                 "HTTP/1.0 200 OK\r\nContent-Type: text/plain; version=0.0.4\r\nContent-Length: %zu\r\n\r\n",
                  buffer_len(&text));
     buffer_put(&it->out, buffer_at(&text), buffer_len(&text));
     buffer_free(&text);
@@ -148,11 +149,13 @@ void reader_event(worker *worker, peer *peer, uint32_t events) {
             end_reader(it);
             return;
         }
-        if (buffer_len(&it->in) >= 4 && memmem(buffer_at(&it->in), buffer_len(&it->in), "\r\n\r\n", 4) != NULL)
+        if (buffer_len(&it->in) >= 4 &&
+            memmem(buffer_at(&it->in), buffer_len(&it->in), "\r\n\r\n", 4) != NULL)
             answer(it);
     }
     bool has_answer = buffer_len(&it->out) > 0;
-    if ((events & (EPOLLERR | EPOLLHUP)) != 0 || peer_write(peer, &it->out) < 0 || (has_answer && buffer_len(&it->out) == 0))
+    if ((events & (EPOLLERR | EPOLLHUP)) != 0 || peer_write(peer, &it->out) < 0 ||
+        (has_answer && buffer_len(&it->out) == 0))
         end_reader(it);
     else
         peer_watch(worker, peer, has_answer ? EPOLLOUT : EPOLLIN);

@@ -85,7 +85,8 @@ static bool find_map(worker *worker) {
     while (!worker->map.has_map && worker->now < until && atomic_load(&the_proxy.draining) == 0)
         worker_round(worker);
     if (!worker->map.has_map)
-        warn("no map of the cluster: %s", worker->map.why[0] != 0 ? worker->map.why : "no node answered in time");
+        warn("no map of the cluster: %s",
+             worker->map.why[0] != 0 ? worker->map.why : "no node answered in time");
     return worker->map.has_map;
 }
 
@@ -100,8 +101,8 @@ static bool run(void) {
            pthread_create(&threads[started], NULL, worker_run, the_proxy.workers[started]) == 0)
         started++;
     say("%s, %llu threads, before %zu primaries and %zu replicas with %zu slots", the_proxy.settings.listen,
-        (unsigned long long)started, first->map.primary_count, first->map.all_count - first->map.primary_count,
-        first->map.slots);
+        (unsigned long long)started, first->map.primary_count,
+        first->map.all_count - first->map.primary_count, first->map.slots);
     if (started == count)
         worker_run(first);
     for (uint64_t at = 1; at < started; at++)

@@ -167,7 +167,8 @@ void node_event(node *it, uint32_t events) {
     node_check(it);
 }
 
-/* Closes the connection, and reports to who waits. What was not written is dropped: the connection is reset. */
+/* Closes the connection, and reports to who waits. What was not written is dropped: the connection is reset.
+ */
 static void lose(node *it) {
     struct linger reset = {1, 0};
     waiter *queue = it->queue;
@@ -224,8 +225,10 @@ void node_settle(node *it) {
 
 void node_tick(node *it) {
     uint64_t limit = the_proxy.settings.timeout * MILLISECOND;
-    bool owes = it->state == NODE_OPENING || it->state == NODE_LOGIN || (it->state == NODE_OPEN && it->count > 0);
-    if (it->is_private && it->state == NODE_OPEN && it->client != NULL && (it->count > 0 || it->client->is_subscribed)) {
+    bool owes =
+        it->state == NODE_OPENING || it->state == NODE_LOGIN || (it->state == NODE_OPEN && it->count > 0);
+    if (it->is_private && it->state == NODE_OPEN && it->client != NULL &&
+        (it->count > 0 || it->client->is_subscribed)) {
         private_tick(it);
         return;
     }
@@ -233,7 +236,8 @@ void node_tick(node *it) {
         node_doom(it, it->state == NODE_OPEN ? "silent for too long" : "no connection in time");
     if (owes && it->worker->now - it->heard > limit / 4)
         topology_want(it->worker);
-    if (it->state == NODE_OPEN && !it->is_in_map && it->count == 0 && it->worker->now - it->heard > 10 * SECOND)
+    if (it->state == NODE_OPEN && !it->is_in_map && it->count == 0 &&
+        it->worker->now - it->heard > 10 * SECOND)
         node_doom(it, "it is not needed");
 }
 

@@ -23,7 +23,8 @@ void node_open(node *it) {
     it->peer.fd = socket(found->ai_family, SOCK_STREAM | SOCK_NONBLOCK | SOCK_CLOEXEC, 0);
     if (it->peer.fd >= 0)
         peer_set_up(it->peer.fd);
-    if (it->peer.fd < 0 || (connect(it->peer.fd, found->ai_addr, found->ai_addrlen) != 0 && errno != EINPROGRESS))
+    if (it->peer.fd < 0 ||
+        (connect(it->peer.fd, found->ai_addr, found->ai_addrlen) != 0 && errno != EINPROGRESS))
         node_doom(it, strerror(errno));
     else
         peer_watch(it->worker, &it->peer, EPOLLIN | EPOLLOUT);
@@ -34,7 +35,8 @@ void node_open(node *it) {
 static void log_in(node *it) {
     const settings *set = &the_proxy.settings;
     buffer words = {0};
-    buffer_print(&words, set->node_user != NULL ? "*3\r\n$4\r\nAUTH\r\n$%zu\r\n%s\r\n" : "*2\r\n$4\r\nAUTH\r\n",
+    buffer_print(&words,
+                 set->node_user != NULL ? "*3\r\n$4\r\nAUTH\r\n$%zu\r\n%s\r\n" : "*2\r\n$4\r\nAUTH\r\n",
                  set->node_user != NULL ? strlen(set->node_user) : 0, set->node_user);
     buffer_print(&words, "$%zu\r\n%s\r\n", strlen(set->node_password), set->node_password);
     node_make_room(it);

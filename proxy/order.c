@@ -8,7 +8,6 @@
 
 #include <string.h>
 
-
 /* A part in a client's queue. */
 typedef struct place {
     request *request; /* NULL after the last one */
@@ -89,8 +88,9 @@ static bool step(client *client, uint16_t slot) {
     }
     later later = slot == NO_SLOT ? (struct later){false, false} : later_of(first, slot);
     if (later.is_done) {
-        part_fail(first.request, first.part,
-                  "TRYAGAIN the slot is being moved, and a later command on it took effect before this one could");
+        part_fail(
+            first.request, first.part,
+            "TRYAGAIN the slot is being moved, and a later command on it took effect before this one could");
         return true;
     }
     if (!later.is_sent && client->worker->now >= part_at(first)->due)
@@ -114,14 +114,17 @@ bool part_may_try(const request *request, uint32_t part) {
 static bool give_up(client *client, place at) {
     part *part = part_at(at);
     worker *worker = client->worker;
-    uint64_t retry = the_proxy.settings.retry * MILLISECOND, timeout = the_proxy.settings.timeout * MILLISECOND;
-    bool has_node = part->slot == NO_SLOT ? worker->map.primary_count > 0 : topology_owner(worker, part->slot) != NULL;
+    uint64_t retry = the_proxy.settings.retry * MILLISECOND,
+             timeout = the_proxy.settings.timeout * MILLISECOND;
+    bool has_node =
+        part->slot == NO_SLOT ? worker->map.primary_count > 0 : topology_owner(worker, part->slot) != NULL;
     if (part->state == PART_AGAIN && !has_node && part->to == NULL && worker->now - at.request->start > retry)
         part_fail(at.request, at.part, "CLUSTERDOWN Hash slot not served");
     else if (worker->now - at.request->start > 2 * (retry + timeout))
         part_fail(at.request, at.part,
-                  at.request->is_split ? "ERR a part of the command waited for too long, and did not take effect"
-                                       : "ERR the command waited for too long, and did not take effect");
+                  at.request->is_split
+                      ? "ERR a part of the command waited for too long, and did not take effect"
+                      : "ERR the command waited for too long, and did not take effect");
     else
         return false;
     return true;

@@ -19,8 +19,8 @@ void client_advance(client *client);
 /* Whether a part that had no effect may be tried again: its time is not up. */
 bool part_may_try(const request *request, uint32_t part);
 
-/* Reads an error that a node sent for a part. If nothing took effect, the part is held to be sent again,
- * and the result is true. */
+/* Reads an error that a node sent for a part. If it redirects, the part is held to be sent again, or fails
+ * because its time is up, and the result is true. */
 bool redirect_follow(request *request, uint32_t part, node *from, const uint8_t *error, size_t len);
 
 #endif

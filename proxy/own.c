@@ -37,7 +37,8 @@ static void answer_bulk(client *client, const char *text, size_t len) {
 
 static void refuse_count(client *client, word name) {
     char text[100];
-    snprintf(text, sizeof text, "wrong number of arguments for '%.*s' command", name.len < 20 ? (int)name.len : 20, name.text);
+    snprintf(text, sizeof text, "wrong number of arguments for '%.*s' command",
+             name.len < 20 ? (int)name.len : 20, name.text);
     request_refuse(client, text);
 }
 
@@ -54,8 +55,9 @@ static bool is_password(word given) {
 /* Whether the client is known now. An error is written if it is not. */
 static bool log_in(client *client, word user, word password) {
     if (the_proxy.settings.password == NULL) {
-        request_refuse(client, "AUTH <password> called without any password configured for the default user. Are you "
-                               "sure your configuration is correct?");
+        request_refuse(client,
+                       "AUTH <password> called without any password configured for the default user. Are you "
+                       "sure your configuration is correct?");
         return false;
     }
     if (!word_is(user, "default") || !is_password(password)) {
@@ -95,7 +97,8 @@ static bool read_hello(client *client, const line *line) {
             if (!log_in(client, line->words[at + 1], line->words[at + 2]))
                 return false;
             at += 3;
-        } else if (word_is(line->words[at], "SETNAME") && at + 1 < line->count && is_name(line->words[at + 1])) {
+        } else if (word_is(line->words[at], "SETNAME") && at + 1 < line->count &&
+                   is_name(line->words[at + 1])) {
             set_name(client, line->words[at + 1]);
             at += 2;
         } else {
@@ -116,13 +119,16 @@ static void answer_hello(client *client, const line *line) {
     if (!read_hello(client, line))
         return;
     if (!client->is_known) {
-        answer(client, "-NOAUTH HELLO must be called with the client already authenticated, otherwise the HELLO <proto> "
-                       "AUTH <user> <pass> option can be used to authenticate the client and select the RESP protocol "
-                       "version at the same time\r\n");
+        answer(
+            client,
+            "-NOAUTH HELLO must be called with the client already authenticated, otherwise the HELLO <proto> "
+            "AUTH <user> <pass> option can be used to authenticate the client and select the RESP protocol "
+            "version at the same time\r\n");
         return;
     }
     snprintf(text, sizeof text,
-             "*14\r\n$6\r\nserver\r\n$5\r\nredis\r\n$7\r\nversion\r\n$5\r\n7.0.0\r\n$5\r\nproto\r\n:2\r\n$2\r\nid\r\n:%llu\r\n"
+             "*14\r\n$6\r\nserver\r\n$5\r\nredis\r\n$7\r\nversion\r\n$5\r\n7.0.0\r\n$5\r\nproto\r\n:2\r\n$"
+             "2\r\nid\r\n:%llu\r\n"
              "$4\r\nmode\r\n$10\r\nstandalone\r\n$4\r\nrole\r\n$6\r\nmaster\r\n$7\r\nmodules\r\n*0\r\n",
              (unsigned long long)client->id);
     answer(client, text);
@@ -142,11 +148,13 @@ static void answer_client(client *client, const line *line) {
         snprintf(text, sizeof text, ":%llu\r\n", (unsigned long long)client->id);
         answer(client, text);
     } else if (word_is(second, "INFO") && line->count == 2) {
-        int len = snprintf(text, sizeof text, "id=%llu name=%s db=0 resp=2 user=default\n", (unsigned long long)client->id,
-                           client->name);
+        int len = snprintf(text, sizeof text, "id=%llu name=%s db=0 resp=2 user=default\n",
+                           (unsigned long long)client->id, client->name);
         answer_bulk(client, text, (size_t)len);
     } else {
-        request_refuse(client, "the proxy does not take this: of CLIENT it takes SETNAME, GETNAME, SETINFO, ID and INFO");
+        request_refuse(
+            client,
+            "the proxy does not take this: of CLIENT it takes SETNAME, GETNAME, SETINFO, ID and INFO");
     }
 }
 

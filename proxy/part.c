@@ -16,7 +16,7 @@ static const char asking[] = "*1\r\n$6\r\nASKING\r\n";
 void part_send(request *it, uint32_t at) {
     part *part = &it->part[at];
     worker *worker = it->client->worker;
-    node *to = part->to != NULL      ? part->to
+    node *to = part->to != NULL        ? part->to
                : part->slot == NO_SLOT ? topology_any(worker)
                                        : topology_owner(worker, part->slot);
     if (to == NULL) {
@@ -115,7 +115,8 @@ void part_reply(request *it, uint32_t at, node *from, const uint8_t *reply, size
         drop(it, at);
     } else if (reply[0] != '-') {
         part_finish(it, at, reply, len);
-    } else if (it->queued > 0 ? !transaction_follow(it, from, reply, len) : !redirect_follow(it, at, from, reply, len)) {
+    } else if (it->queued > 0 ? !transaction_follow(it, from, reply, len)
+                              : !redirect_follow(it, at, from, reply, len)) {
         figure_add(&from->worker->stats.counts[COUNT_NODE_ERRORS], 1);
         part_finish(it, at, reply, len);
     }

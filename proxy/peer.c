@@ -27,7 +27,8 @@ void peer_watch(worker *worker, peer *peer, uint32_t events) {
 }
 
 void peer_set_up(int fd) {
-    int one = 1, idle = 60, pause = 10, tries = 3; /* seconds until a connection without its other side ends */
+    int one = 1, idle = 60, pause = 10,
+        tries = 3; /* seconds until a connection without its other side ends */
     fcntl(fd, F_SETFL, O_NONBLOCK);
     fcntl(fd, F_SETFD, FD_CLOEXEC);
     setsockopt(fd, IPPROTO_TCP, TCP_NODELAY, &one, sizeof one);
@@ -94,7 +95,8 @@ int listen_at(const char *address) {
     char host[HOST_ROOM];
     uint16_t port = 0;
     address_split(address, host, &port);
-    struct addrinfo hints = {.ai_flags = AI_PASSIVE | AI_NUMERICSERV, .ai_socktype = SOCK_STREAM}, *found = NULL;
+    struct addrinfo hints = {.ai_flags = AI_PASSIVE | AI_NUMERICSERV, .ai_socktype = SOCK_STREAM},
+                    *found = NULL;
     int fault = getaddrinfo(host, strrchr(address, ':') + 1, &hints, &found);
     if (fault != 0) {
         warn("%s: %s", address, gai_strerror(fault));

@@ -29,7 +29,8 @@ void private_drop(client *client) {
     client->is_subscribed = false;
 }
 
-/* The node says nothing on this connection for as long as its client waits. So it is asked on the shared one. */
+/* The node says nothing on this connection for as long as its client waits. So it is asked on the shared one.
+ */
 void private_tick(node *own) {
     static const char ping[] = "*1\r\n$4\r\nPING\r\n";
     worker *worker = own->worker;
@@ -69,7 +70,8 @@ bool subscription_begin(client *client, const uint8_t *bytes, size_t len) {
 static bool is_last(const uint8_t *message, size_t len) {
     static const char names[][28] = {"*3\r\n$11\r\nunsubscribe\r\n", "*3\r\n$12\r\npunsubscribe\r\n"};
     bool is_end = len > 30 && memcmp(message + len - 5, "\n:0\r\n", 5) == 0;
-    return is_end && (memcmp(message, names[0], strlen(names[0])) == 0 || memcmp(message, names[1], strlen(names[1])) == 0);
+    return is_end && (memcmp(message, names[0], strlen(names[0])) == 0 ||
+                      memcmp(message, names[1], strlen(names[1])) == 0);
 }
 
 void subscription_message(client *client, const uint8_t *message, size_t len) {

@@ -1,4 +1,5 @@
-/* A connection to a node that one client has alone: for commands that wait, as BLPOP, and for subscriptions. */
+/* A connection to a node that one client has alone: for commands that wait, as BLPOP, and for subscriptions.
+ */
 #ifndef PROXY_PRIVATE_H
 #define PROXY_PRIVATE_H
 

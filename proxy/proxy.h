@@ -8,8 +8,11 @@
 #include "stats.h"
 
 enum { MOST_NODES = 4096, NO_SLOT = 65535, SMALL_REPLY = 40, SMALL_ERROR = 512, READ_ROOM = 65536 };
-enum { MOST_QUEUED = 256, MOST_UNREAD = 1 << 20 }; /* requests and bytes of replies, before a client has to wait */
-enum { MILLISECOND = 1000, SECOND = 1000000 };      /* in microseconds, in which all times are */
+enum {
+    MOST_QUEUED = 256,
+    MOST_UNREAD = 1 << 20
+}; /* requests and bytes of replies, before a client has to wait */
+enum { MILLISECOND = 1000, SECOND = 1000000 }; /* in microseconds, in which all times are */
 enum { PAUSE = 20 * MILLISECOND, LONGER_PAUSE = 50 * MILLISECOND };
 
 typedef struct worker worker;
@@ -18,7 +21,14 @@ typedef struct node node;
 typedef struct request request;
 
 /* What epoll watches. */
-typedef enum peer_kind { PEER_CLIENT, PEER_NODE, PEER_LISTENER, PEER_GIVEN, PEER_FIGURES, PEER_READER } peer_kind;
+typedef enum peer_kind {
+    PEER_CLIENT,
+    PEER_NODE,
+    PEER_LISTENER,
+    PEER_GIVEN,
+    PEER_FIGURES,
+    PEER_READER
+} peer_kind;
 
 typedef struct peer {
     peer_kind kind;
@@ -52,8 +62,8 @@ struct request {
     uint32_t parts, left, in_flight; /* all parts, those not done, those sent */
     uint32_t policy;
     bool is_split, is_script, is_private;
-    uint32_t queued; /* the commands of a transaction, or 0 */
-    size_t len, size; /* of the request, and of the block that it stands in */
+    uint32_t queued;       /* the commands of a transaction, or 0 */
+    size_t len, size;      /* of the request, and of the block that it stands in */
     uint8_t *bytes, *sent; /* the request, and what its parts are pieces of */
     part *part, one;
 };
@@ -68,17 +78,17 @@ struct client {
     slotroute_progress progress;
     request *first, *last; /* in the order of their replies */
     size_t queued, queued_bytes;
-    size_t reply_len; /* of its replies, about: those of late count most */
-    size_t held;      /* parts that are HELD or AGAIN */
-    uint64_t read_at; /* when it last took bytes of its replies, or had none to take */
-    uint64_t end_at;  /* when a client that is to close has to be gone */
-    const char *doom; /* why it is closed at the end of the round, or NULL */
+    size_t reply_len;                     /* of its replies, about: those of late count most */
+    size_t held;                          /* parts that are HELD or AGAIN */
+    uint64_t read_at;                     /* when it last took bytes of its replies, or had none to take */
+    uint64_t end_at;                      /* when a client that is to close has to be gone */
+    const char *doom;                     /* why it is closed at the end of the round, or NULL */
     bool is_dirty, is_troubled, is_known; /* known: it gave the password, if there is one */
-    bool is_alone;  /* its one request goes to many nodes: the next waits */
-    bool is_ending; /* nothing more is read as requests */
-    bool has_ended; /* it will send nothing more */
-    bool is_shut;   /* all was written, and it was told so */
-    bool is_paused; /* it waits because of the memory of all */
+    bool is_alone;                        /* its one request goes to many nodes: the next waits */
+    bool is_ending;                       /* nothing more is read as requests */
+    bool has_ended;                       /* it will send nothing more */
+    bool is_shut;                         /* all was written, and it was told so */
+    bool is_paused;                       /* it waits because of the memory of all */
     bool is_subscribed;
     node *own; /* a connection that it has alone, or NULL */
     bool is_multi, is_multi_bad;
@@ -111,11 +121,12 @@ struct node {
     slotroute_progress progress;
     waiter *queue; /* a ring */
     size_t first, count, room;
-    uint64_t given, sent, replies;  /* bytes put into `out` and bytes written, and replies read, since it was opened */
-    uint64_t asked;                 /* how many replies were asked for since it was opened */
-    uint64_t heard;                 /* when it said something, or was asked while it owed nothing */
-    uint64_t failed;                /* when a connection failed last, or 0 */
-    const char *lost;               /* why the connection is closed at the end of the round, or NULL */
+    uint64_t given, sent,
+        replies;      /* bytes put into `out` and bytes written, and replies read, since it was opened */
+    uint64_t asked;   /* how many replies were asked for since it was opened */
+    uint64_t heard;   /* when it said something, or was asked while it owed nothing */
+    uint64_t failed;  /* when a connection failed last, or 0 */
+    const char *lost; /* why the connection is closed at the end of the round, or NULL */
     char why[128];
     node *next_dirty, *next_left;
     client *client; /* who has it alone, or NULL */
@@ -125,8 +136,9 @@ struct node {
 /* Where slots are. */
 typedef struct topology {
     uint16_t owner[SLOTROUTE_SLOTS]; /* the number of its node, or SLOTROUTE_NO_NODE */
-    uint64_t moving[SLOTROUTE_SLOTS]; /* until when the commands of a client on a slot go one after the other */
-    uint64_t moving_until;            /* the latest of these */
+    uint64_t
+        moving[SLOTROUTE_SLOTS]; /* until when the commands of a client on a slot go one after the other */
+    uint64_t moving_until;       /* the latest of these */
     node *primaries[MOST_NODES], *all[MOST_NODES];
     size_t primary_count, all_count, slots, next_any, next_asked, tries;
     bool has_map, is_wanted, is_asked;
@@ -163,7 +175,7 @@ typedef struct proxy {
 extern proxy the_proxy;
 
 uint64_t clock_now(void);
-void say(const char *format, ...) __attribute__((format(printf, 1, 2)));   /* a line of the log */
+void say(const char *format, ...) __attribute__((format(printf, 1, 2)));  /* a line of the log */
 void warn(const char *format, ...) __attribute__((format(printf, 1, 2))); /* also if `quiet` */
 
 #endif

@@ -1,6 +1,7 @@
 #include "order.h"
 
 #include "node.h"
+#include "request.h"
 #include "topology.h"
 
 #include <string.h>
@@ -11,11 +12,12 @@ static bool begins(const uint8_t *error, size_t len, const char *text) {
     return len >= strlen(text) && memcmp(error, text, strlen(text)) == 0;
 }
 
-/* Whether the error says that the command did nothing, and may do it after a while. A script can write such an
- * error itself, after effects. Commands after MULTI are not run yet, so their errors are as good. */
+/* Whether the error says that the command did nothing, and may do it after a while. A script can write such
+ * an error itself, after effects. Commands after MULTI are not run yet, so their errors are as good. */
 static bool is_pause(const request *request, const uint8_t *error, size_t len) {
-    return (!request->is_script || request->queued > 0) && (begins(error, len, "-TRYAGAIN ") || begins(error, len, "-CLUSTERDOWN ") ||
-                          begins(error, len, "-LOADING "));
+    return (!request->is_script || request->queued > 0) &&
+           (begins(error, len, "-TRYAGAIN ") || begins(error, len, "-CLUSTERDOWN ") ||
+            begins(error, len, "-LOADING "));
 }
 
 static void hold_for(request *request, uint32_t part, node *to, bool asking, uint64_t pause) {
@@ -43,11 +45,13 @@ bool redirect_follow(request *request, uint32_t part, node *from, const uint8_t 
         hold_for(request, part, NULL, false, PAUSE);
         return true;
     }
-    if (!begins(error, len, "-MOVED ") && !begins(error, len, "-ASK "))
+    bool is_redirect = begins(error, len, "-MOVED ") || begins(error, len, "-ASK ");
+    if (!is_redirect || !layer_redirect(error, len, from->host, &found) || found.to.slot != it->slot)
         return false;
-    if (!part_may_try(request, part) || !layer_redirect(error, len, from->host, &found) ||
-        found.to.slot != it->slot)
-        return false;
+    if (!part_may_try(request, part)) {
+        part_fail(request, part, "TRYAGAIN the nodes redirected the command for too long");
+        return true;
+    }
     node *to = node_at(worker, found.host, (uint16_t)found.to.port);
     if (to == NULL)
         return false;

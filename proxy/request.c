@@ -5,9 +5,10 @@
 
 #include <string.h>
 
-/* A request at the end of a client's queue. `sent` has what its parts are pieces of: the request, or its split.
- * All of it is one block: the request, its parts, its bytes, and the bytes of the split. */
-static request *request_new(client *client, const uint8_t *bytes, size_t len, uint32_t parts, const split *split) {
+/* A request at the end of a client's queue. `sent` has what its parts are pieces of: the request, or its
+ * split. All of it is one block: the request, its parts, its bytes, and the bytes of the split. */
+static request *request_new(client *client, const uint8_t *bytes, size_t len, uint32_t parts,
+                            const split *split) {
     size_t parts_size = parts > 1 ? parts * sizeof(part) : 0, split_len = split != NULL ? split->len : 0;
     size_t size = sizeof(request) + parts_size + len + split_len;
     request *it = memory_take_raw(size);
@@ -60,7 +61,8 @@ static void begin_one(client *client, const uint8_t *bytes, size_t len, uint16_t
     part_begin(it, 0);
 }
 
-void request_begin_transaction(client *client, const uint8_t *bytes, size_t len, uint16_t slot, uint32_t queued) {
+void request_begin_transaction(client *client, const uint8_t *bytes, size_t len, uint16_t slot,
+                               uint32_t queued) {
     request *it = request_new(client, bytes, len, 1, NULL);
     it->is_script = true; /* as after a script, an error of EXEC itself may follow effects */
     it->queued = queued;
@@ -76,7 +78,8 @@ static bool begin_split(client *client, const uint8_t *bytes, size_t len) {
     request *it = request_new(client, bytes, len, (uint32_t)split.parts, &split);
     it->is_split = split.parts > 1;
     for (uint32_t at = 0; at < it->parts; at++)
-        it->part[at] = (part){.start = at == 0 ? 0 : split.ends[at - 1], .end = split.ends[at], .slot = split.slots[at]};
+        it->part[at] =
+            (part){.start = at == 0 ? 0 : split.ends[at - 1], .end = split.ends[at], .slot = split.slots[at]};
     if (it->is_split)
         figure_add(&client->worker->stats.counts[COUNT_SPLIT], 1);
     for (uint32_t at = 0; at < it->parts; at++)
@@ -85,9 +88,11 @@ static bool begin_split(client *client, const uint8_t *bytes, size_t len) {
 }
 
 /* Sends a request whole to many nodes. The client's next request waits for it. */
-static void begin_many(client *client, const uint8_t *bytes, size_t len, node **nodes, size_t count, uint32_t policy) {
+static void begin_many(client *client, const uint8_t *bytes, size_t len, node **nodes, size_t count,
+                       uint32_t policy) {
     if (policy == SLOTROUTE_NO_POLICY || policy == SLOTROUTE_SPECIAL) {
-        request_refuse(client, "the replies of several nodes to this command make no one reply: send it to each node");
+        request_refuse(
+            client, "the replies of several nodes to this command make no one reply: send it to each node");
         return;
     }
     if (count == 0) {
@@ -112,7 +117,8 @@ bool request_begin(client *client, const uint8_t *bytes, size_t len, command_kin
         request_refuse(client, "the proxy cannot read this request");
         return true;
     }
-    bool is_alone = to.kind == SLOTROUTE_TO_ALL || to.kind == SLOTROUTE_TO_ALL_PRIMARIES || kind == COMMAND_BLOCKING;
+    bool is_alone =
+        to.kind == SLOTROUTE_TO_ALL || to.kind == SLOTROUTE_TO_ALL_PRIMARIES || kind == COMMAND_BLOCKING;
     if (is_alone && client->first != NULL)
         return false;
     if (to.kind == SLOTROUTE_TO_SLOT)

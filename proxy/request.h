@@ -10,7 +10,8 @@
 bool request_begin(client *client, const uint8_t *bytes, size_t len, command_kind kind);
 
 /* Sends a transaction: MULTI, its commands, and EXEC, all of one slot. */
-void request_begin_transaction(client *client, const uint8_t *bytes, size_t len, uint16_t slot, uint32_t queued);
+void request_begin_transaction(client *client, const uint8_t *bytes, size_t len, uint16_t slot,
+                               uint32_t queued);
 
 /* Answers a request with a text of the proxy's own, once the earlier ones are answered. */
 void request_answer_own(client *client, const char *text, size_t len);

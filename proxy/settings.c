@@ -34,8 +34,8 @@ static const row rows[] = {
     {"memory", "bytes for all clients at most (2gb)", SIZE, AT(memory), 1 << 20, 1ULL << 44},
     {"timeout", "milliseconds that a node may be silent (5000)", NUMBER, AT(timeout), 50, 3600000},
     {"retry", "milliseconds during which a command is tried again (5000)", NUMBER, AT(retry), 0, 3600000},
-    {"client-timeout", "milliseconds that a client may leave replies unread (60000)", NUMBER, AT(client_timeout),
-     100, 86400000},
+    {"client-timeout", "milliseconds that a client may leave replies unread (60000)", NUMBER,
+     AT(client_timeout), 100, 86400000},
     {"drain", "milliseconds that SIGTERM leaves to open requests (10000)", NUMBER, AT(drain), 0, 3600000},
     {"quiet", "log only errors", SWITCH, AT(quiet), 0, 0},
 };
@@ -74,7 +74,8 @@ static bool is_address(const char *value) {
 /* Sets a value, which has to stay in memory. Returns what is wrong, or NULL. */
 static const char *set(settings *settings, const row *row, const char *value) {
     char *field = (char *)settings + row->at;
-    bool is_place = row->kind == SEED || strcmp(row->name, "listen") == 0 || strcmp(row->name, "metrics") == 0;
+    bool is_place =
+        row->kind == SEED || strcmp(row->name, "listen") == 0 || strcmp(row->name, "metrics") == 0;
     if (is_place && !is_address(value))
         return "is not HOST:PORT";
     if (row->kind == SEED) {
@@ -180,7 +181,9 @@ static int read_flag(settings *settings, int count, char **words, int at) {
         set(settings, row, "yes");
         return 1;
     }
-    const char *wrong = row == NULL ? "is no flag" : value == NULL ? "has no value" : set(settings, row, value);
+    const char *wrong = row == NULL     ? "is no flag"
+                        : value == NULL ? "has no value"
+                                        : set(settings, row, value);
     if (wrong == NULL)
         return 2;
     fprintf(stderr, "%s %s %s\n", name, row != NULL && value != NULL ? value : "", wrong);
@@ -189,9 +192,17 @@ static int read_flag(settings *settings, int count, char **words, int at) {
 
 bool settings_read(settings *settings, int count, char **words) {
     *settings = (struct settings){
-        .listen = "127.0.0.1:6380", .threads = 1, .max_clients = 10000, .max_message = 64 << 20,
-        .max_reply = 512 << 20, .client_memory = 512 << 20, .memory = 2ULL << 30, .timeout = 5000,
-        .retry = 5000, .client_timeout = 60000, .drain = 10000,
+        .listen = "127.0.0.1:6380",
+        .threads = 1,
+        .max_clients = 10000,
+        .max_message = 64 << 20,
+        .max_reply = 512 << 20,
+        .client_memory = 512 << 20,
+        .memory = 2ULL << 30,
+        .timeout = 5000,
+        .retry = 5000,
+        .client_timeout = 60000,
+        .drain = 10000,
     };
     for (int at = 1, took; at < count; at += took) {
         took = read_flag(settings, count, words, at);

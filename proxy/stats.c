@@ -8,26 +8,35 @@ typedef struct row {
 
 static const row rows[COUNTERS] = {
     [COUNT_CLIENTS_NOW] = {"connected_clients", "clients", "gauge", "clients that are connected"},
-    [COUNT_CLIENTS_TAKEN] = {"total_connections_received", "clients_total", "counter", "clients since the start"},
-    [COUNT_CLIENTS_REFUSED] = {"rejected_connections", "clients_refused_total", "counter", "clients above the limit"},
+    [COUNT_CLIENTS_TAKEN] = {"total_connections_received", "clients_total", "counter",
+                             "clients since the start"},
+    [COUNT_CLIENTS_REFUSED] = {"rejected_connections", "clients_refused_total", "counter",
+                               "clients above the limit"},
     [COUNT_COMMANDS] = {"total_commands_processed", "commands_total", "counter", "commands of clients"},
     [COUNT_SPLIT] = {"split_commands", "split_commands_total", "counter", "commands that were split by slot"},
     [COUNT_PARTS] = {"parts", "parts_total", "counter", "commands that were sent to nodes"},
     [COUNT_MOVED] = {"moved", "moved_total", "counter", "MOVED that was followed"},
     [COUNT_ASK] = {"ask", "ask_total", "counter", "ASK that was followed"},
-    [COUNT_TRYAGAIN] = {"pauses", "pauses_total", "counter", "TRYAGAIN, CLUSTERDOWN and LOADING that were waited out"},
+    [COUNT_TRYAGAIN] = {"pauses", "pauses_total", "counter",
+                        "TRYAGAIN, CLUSTERDOWN and LOADING that were waited out"},
     [COUNT_RETRIES] = {"retries", "retries_total", "counter", "commands that were sent to nodes again"},
     [COUNT_HELD] = {"held", "held_total", "counter", "commands that waited for an earlier one of their slot"},
-    [COUNT_NODE_ERRORS] = {"error_replies", "error_replies_total", "counter", "errors of nodes that clients got"},
-    [COUNT_OWN_ERRORS] = {"own_errors", "own_errors_total", "counter", "errors of the proxy that clients got"},
-    [COUNT_UNKNOWN_END] = {"unknown_ends", "unknown_ends_total", "counter", "commands that may have taken effect"},
-    [COUNT_NODES_LOST] = {"node_connections_lost", "node_connections_lost_total", "counter", "connections to nodes that ended"},
-    [COUNT_NODES_OPENED] = {"node_connections", "node_connections_total", "counter", "connections to nodes that began"},
+    [COUNT_NODE_ERRORS] = {"error_replies", "error_replies_total", "counter",
+                           "errors of nodes that clients got"},
+    [COUNT_OWN_ERRORS] = {"own_errors", "own_errors_total", "counter",
+                          "errors of the proxy that clients got"},
+    [COUNT_UNKNOWN_END] = {"unknown_ends", "unknown_ends_total", "counter",
+                           "commands that may have taken effect"},
+    [COUNT_NODES_LOST] = {"node_connections_lost", "node_connections_lost_total", "counter",
+                          "connections to nodes that ended"},
+    [COUNT_NODES_OPENED] = {"node_connections", "node_connections_total", "counter",
+                            "connections to nodes that began"},
     [COUNT_MAPS] = {"maps", "maps_total", "counter", "maps of the cluster that were read"},
     [COUNT_STRAY] = {"stray_replies", "stray_replies_total", "counter", "replies that nobody waited for"},
     [COUNT_MEMORY] = {"used_memory", "memory_bytes", "gauge", "bytes of buffers and requests"},
     [COUNT_BYTES_IN] = {"total_net_input_bytes", "read_bytes_total", "counter", "bytes read from clients"},
-    [COUNT_BYTES_OUT] = {"total_net_output_bytes", "written_bytes_total", "counter", "bytes written to clients"},
+    [COUNT_BYTES_OUT] = {"total_net_output_bytes", "written_bytes_total", "counter",
+                         "bytes written to clients"},
 };
 
 void stats_took(stats *stats, uint64_t microseconds) {
@@ -39,17 +48,22 @@ void stats_took(stats *stats, uint64_t microseconds) {
 static uint64_t sum_of(size_t offset) {
     uint64_t sum = 0;
     for (uint64_t at = 0; at < the_proxy.settings.threads; at++)
-        sum += figure_read((const _Atomic uint64_t *)(const void *)((const char *)&the_proxy.workers[at]->stats + offset));
+        sum += figure_read(
+            (const _Atomic uint64_t *)(const void *)((const char *)&the_proxy.workers[at]->stats + offset));
     return sum;
 }
 
-static uint64_t count_of(size_t counter) { return sum_of(offsetof(stats, counts) + counter * sizeof(uint64_t)); }
+static uint64_t count_of(size_t counter) {
+    return sum_of(offsetof(stats, counts) + counter * sizeof(uint64_t));
+}
 
 static uint64_t took_of(size_t step) { return sum_of(offsetof(stats, took) + step * sizeof(uint64_t)); }
 
 void stats_info(buffer *out) {
-    buffer_print(out, "# Server\r\nredis_version:7.0.0\r\nredis_mode:standalone\r\nproxy:slotroute %s\r\n", SLOTROUTE_VERSION);
-    buffer_print(out, "uptime_in_seconds:%llu\r\n", (unsigned long long)((clock_now() - the_proxy.start) / SECOND));
+    buffer_print(out, "# Server\r\nredis_version:7.0.0\r\nredis_mode:standalone\r\nproxy:slotroute %s\r\n",
+                 SLOTROUTE_VERSION);
+    buffer_print(out, "uptime_in_seconds:%llu\r\n",
+                 (unsigned long long)((clock_now() - the_proxy.start) / SECOND));
     buffer_print(out, "threads:%llu\r\n\r\n# Stats\r\n", (unsigned long long)the_proxy.settings.threads);
     for (size_t at = 0; at < COUNTERS; at++)
         buffer_print(out, "%s:%llu\r\n", rows[at].info, (unsigned long long)count_of(at));
@@ -68,14 +82,17 @@ void stats_prometheus(buffer *out) {
         buffer_print(out, "slotroute_proxy_%s %llu\n", rows[at].name, (unsigned long long)count_of(at));
     }
     uint64_t below = 0;
-    buffer_text(out, "# HELP slotroute_proxy_seconds how long commands took\n# TYPE slotroute_proxy_seconds histogram\n");
+    buffer_text(
+        out,
+        "# HELP slotroute_proxy_seconds how long commands took\n# TYPE slotroute_proxy_seconds histogram\n");
     for (size_t at = 0; at < LATENCY_STEPS; at++) {
         below += took_of(at);
         if (at + 1 < LATENCY_STEPS)
             buffer_print(out, "slotroute_proxy_seconds_bucket{le=\"%g\"} %llu\n", (double)(1ULL << at) / 1e6,
                          (unsigned long long)below);
     }
-    buffer_print(out, "slotroute_proxy_seconds_bucket{le=\"+Inf\"} %llu\nslotroute_proxy_seconds_count %llu\n",
+    buffer_print(out,
+                 "slotroute_proxy_seconds_bucket{le=\"+Inf\"} %llu\nslotroute_proxy_seconds_count %llu\n",
                  (unsigned long long)below, (unsigned long long)below);
     buffer_print(out, "slotroute_proxy_seconds_sum %g\n", (double)sum_of(offsetof(stats, took_sum)) / 1e6);
 }

@@ -11,20 +11,20 @@ typedef enum counter {
     COUNT_CLIENTS_TAKEN, /* since the start */
     COUNT_CLIENTS_REFUSED,
     COUNT_COMMANDS,
-    COUNT_SPLIT,     /* commands that were split by slot */
-    COUNT_PARTS,     /* what was sent to nodes for clients */
+    COUNT_SPLIT, /* commands that were split by slot */
+    COUNT_PARTS, /* what was sent to nodes for clients */
     COUNT_MOVED,
     COUNT_ASK,
-    COUNT_TRYAGAIN,  /* TRYAGAIN, CLUSTERDOWN and LOADING */
-    COUNT_RETRIES,   /* parts that were sent again */
-    COUNT_HELD,      /* parts that waited for an earlier one of their slot */
+    COUNT_TRYAGAIN, /* TRYAGAIN, CLUSTERDOWN and LOADING */
+    COUNT_RETRIES,  /* parts that were sent again */
+    COUNT_HELD,     /* parts that waited for an earlier one of their slot */
     COUNT_NODE_ERRORS,
     COUNT_OWN_ERRORS,  /* errors that the proxy wrote itself */
     COUNT_UNKNOWN_END, /* commands that may have taken effect */
     COUNT_NODES_LOST,
     COUNT_NODES_OPENED,
     COUNT_MAPS,
-    COUNT_STRAY, /* replies that nobody waited for */
+    COUNT_STRAY,  /* replies that nobody waited for */
     COUNT_MEMORY, /* bytes held now */
     COUNT_BYTES_IN,
     COUNT_BYTES_OUT,

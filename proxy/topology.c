@@ -7,7 +7,13 @@
 #include <stdlib.h>
 #include <string.h>
 
-enum { SOONEST = 100 * MILLISECOND, LATER = 250 * MILLISECOND, PATIENCE = SECOND, EVERY = 10 * SECOND, RECENT = 30 * SECOND };
+enum {
+    SOONEST = 100 * MILLISECOND,
+    LATER = 250 * MILLISECOND,
+    PATIENCE = SECOND,
+    EVERY = 10 * SECOND,
+    RECENT = 30 * SECOND
+};
 
 static const char question[] = "*2\r\n$7\r\nCLUSTER\r\n$5\r\nSLOTS\r\n";
 
@@ -92,7 +98,8 @@ static void take_owners(worker *worker, const uint16_t *numbers, node **nodes, s
 static void report(worker *worker, size_t primaries, size_t all, size_t slots) {
     const topology *map = &worker->map;
     bool is_first = !map->has_map;
-    if (worker->number == 0 && (is_first || primaries != map->primary_count || all != map->all_count || slots != map->slots))
+    if (worker->number == 0 &&
+        (is_first || primaries != map->primary_count || all != map->all_count || slots != map->slots))
         say("the map has %zu slots at %zu primaries, and %zu replicas", map->slots, map->primary_count,
             map->all_count - map->primary_count);
 }
@@ -175,7 +182,8 @@ void topology_reply(node *from, uint64_t number, const uint8_t *reply, size_t le
         return;
     if (reply[0] == '-' || !take_map(worker, from, reply, len)) {
         const char *text = reply[0] == '-' ? (const char *)reply + 1 : "no slots\r\n";
-        snprintf(map->why, sizeof map->why, "%.100s:%u: %.*s", from->host, from->port, (int)strcspn(text, "\r"), text);
+        snprintf(map->why, sizeof map->why, "%.100s:%u: %.*s", from->host, from->port,
+                 (int)strcspn(text, "\r"), text);
         go_on(worker);
         return;
     }

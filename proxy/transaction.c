@@ -25,8 +25,8 @@ static void execute(client *client) {
         answer(client, "*0\r\n");
     } else {
         buffer_put(&client->multi, exec, sizeof exec - 1);
-        request_begin_transaction(client, buffer_at(&client->multi), buffer_len(&client->multi), client->multi_slot,
-                                  client->multi_count);
+        request_begin_transaction(client, buffer_at(&client->multi), buffer_len(&client->multi),
+                                  client->multi_slot, client->multi_count);
     }
     transaction_drop(client);
 }
@@ -79,7 +79,8 @@ void transaction_queue(client *client, const uint8_t *bytes, size_t len, bool is
 void transaction_ask(node *to, request *it) {
     for (uint32_t at = 0; at <= it->queued; at++)
         node_ask(to, "", 0, (waiter){.request = it, .client_id = it->client_id, .waits = WAITS_QUEUED});
-    node_ask(to, it->bytes, it->len, (waiter){.request = it, .client_id = it->client_id, .waits = WAITS_PART});
+    node_ask(to, it->bytes, it->len,
+             (waiter){.request = it, .client_id = it->client_id, .waits = WAITS_PART});
 }
 
 void transaction_queued(request *it, const uint8_t *reply, size_t len) {
@@ -102,5 +103,6 @@ bool transaction_follow(request *it, node *from, const uint8_t *reply, size_t le
     memory_give(part->reply, error_len);
     part->reply = NULL;
     part->reply_len = 0;
-    return len > sizeof abort && memcmp(reply, abort, sizeof abort - 1) == 0 && redirect_follow(it, 0, from, error, error_len);
+    return len > sizeof abort && memcmp(reply, abort, sizeof abort - 1) == 0 &&
+           redirect_follow(it, 0, from, error, error_len);
 }

@@ -1,5 +1,5 @@
-/* MULTI and EXEC. The proxy keeps the commands of a transaction until EXEC. They then stand as one piece in the
- * stream to the node of their slot, so that no command of another client comes between them. */
+/* MULTI and EXEC. The proxy keeps the commands of a transaction until EXEC. They then stand as one piece in
+ * the stream to the node of their slot, so that no command of another client comes between them. */
 #ifndef PROXY_TRANSACTION_H
 #define PROXY_TRANSACTION_H
 

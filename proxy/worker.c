@@ -175,7 +175,8 @@ void worker_round(worker *it) {
 void *worker_run(void *given) {
     worker *it = given;
     it->base = memory_used;
-    while (!it->is_draining || (it->clients != NULL && it->now < it->drain_until && atomic_load(&the_proxy.draining) < 2))
+    while (!it->is_draining ||
+           (it->clients != NULL && it->now < it->drain_until && atomic_load(&the_proxy.draining) < 2))
         worker_round(it);
     layer_end();
     return NULL;

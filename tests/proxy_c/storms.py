@@ -113,7 +113,7 @@ def use(users, meanwhile):
 
 def move_slots(over):
     """Moves the slots of five tags to and fro until the users end."""
-    rng, names, moved = random.Random(1), {}, 0
+    rng, names, moved, old_maps = random.Random(1), {}, 0, 0
     for port in set(primaries().values()):
         names[port] = Client(port).ask("CLUSTER", "MYID")
     while not over.is_set():
@@ -122,13 +122,16 @@ def move_slots(over):
         new = rng.choice([it for it in names if it != old])
         at_old, at_new = Client(old), Client(new)
         at_new.ask("CLUSTER", "SETSLOT", slot, "IMPORTING", names[old])
-        at_old.ask("CLUSTER", "SETSLOT", slot, "MIGRATING", names[new])
+        if at_old.ask("CLUSTER", "SETSLOT", slot, "MIGRATING", names[new]) != "+OK":  # the map was an old one
+            at_new.ask("CLUSTER", "SETSLOT", slot, "STABLE")
+            old_maps += 1
+            continue
         while keys := at_old.ask("CLUSTER", "GETKEYSINSLOT", slot, "7"):
             at_old.ask("MIGRATE", "127.0.0.1", new, "", "0", "5000", "KEYS", *keys)
         for node in (at_new, at_old):
             node.ask("CLUSTER", "SETSLOT", slot, "NODE", names[new])
         moved += 1
-    print(f"slots moved {moved} times")
+    print(f"slots moved {moved} times, and {old_maps} times the map was an old one")
 
 
 def try_storm():
@@ -178,6 +181,37 @@ def try_storm_failover():
     took = until(30, lambda: Client().ask("SET", "{m1}", "1") == "+OK")
     print(f"served again {took} s after that")
     return not wrong and took is not None and seen["lost"] > 0
+
+
+def try_storm_lost():
+    """Nodes close all connections again and again while clients write: nothing takes effect twice."""
+    Client().ask("FLUSHALL")
+
+    def close(over):
+        while not over.wait(0.1):
+            for port in set(primaries().values()):
+                Client(port).ask("CLIENT", "KILL", "TYPE", "normal")
+
+    seen, wrong = use([User(it, 4000) for it in range(50)], close)
+    return not wrong and seen.keys() == {"right", "lost"}
+
+
+def try_storm_hang():
+    """A primary stops for a second, and then for eight, while clients write: values are right."""
+    port = port_of("{m1}")
+    until(10, lambda: Client().ask("FLUSHALL") == "+OK")
+    process = process_of(port)
+
+    def stop(over):
+        for seconds in (1, 8):
+            over.wait(2)
+            os.kill(process, signal.SIGSTOP)
+            time.sleep(seconds)
+            os.kill(process, signal.SIGCONT)
+            print(f"stopped {port} for {seconds} s")
+
+    seen, wrong = use([User(it, 6000, tags=3) for it in range(50)], stop)
+    return not wrong and seen["lost"] > 0
 
 
 def stop_all(ports, signal_number):
