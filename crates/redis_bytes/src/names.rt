@@ -1,4 +1,4 @@
-ghost use Rattle.std.specs.Prelude.{◌≡◌, true, false, map, option_map, IfOk, IfErr};
+ghost use Rattle.std.specs.Prelude.{◌≡◌, ◌≢◌, Ok, true, false, map, option_map, IfOk, IfErr};
 ghost use Rattle.redis_routing.specs.Lookup.{lookup_name};
 ghost use Rattle.redis_routing.specs.Registry.{Registrations};
 ghost use Rattle.redis_bytes.specs.NameLines.{AreNamesIn, HasNoNames, Registers, fields_of, filled_lines, pattern_words, policy_words, name_of_words};
@@ -73,6 +73,7 @@ pub fn register_line(
         → Registers (map (λ field. field.now) fields.now) registry.old registry.new) }
     ensures bad { IfOk result (λ good. good ≡ false → (next : Registrations)
         → ¬ (Registers (map (λ field. field.now) fields.now) registry.old next)) }
+    ensures kept { result ≢ Ok true → registry.new ≡ registry.old }
 {
     let [first, pattern, policy, words @ ..] = fields else {
         return Ok(false);

@@ -33,6 +33,10 @@ pub fn push_items<'a>(
     ensures only { (values : List Reply) (rest : List ℕ) → AllByRecursion IsBulkOrNil values
         → bytes.now ≡ form (array (replies_of values)) ++ rest
         → IfOk result (λ found. MatchOption found ⊥ (λ after. after.now ≡ rest)) }
+    // The items that were there stay.
+    ensures before { IfOk result (λ found. (more : List (List ℕ))
+        × (map (λ item. item.now) items.new.items
+        ≡ map (λ item. item.now) items.old.items ++ more)) }
 {
     let Ok((count, first)) = line_at(bytes, b'*') else {
         return Ok(None);

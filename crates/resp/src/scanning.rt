@@ -1,6 +1,6 @@
-ghost use Rattle.std.specs.Prelude.{◌≡◌, ◌++◌, ◌+◌, ◌<◌, ◌≤◌, ◌≢◌, ℕ, List, length, Ok, Err, IfOk, IfErr, OnOk};
+ghost use Rattle.std.specs.Prelude.{◌⊎◌, ◌≡◌, ◌++◌, ◌+◌, ◌<◌, ◌≤◌, ◌≢◌, ℕ, List, drop, length, Ok, Err, IfOk, IfErr, OnOk};
 ghost use Rattle.resp.specs.Forms.{Answer, IsForm};
-ghost use Rattle.resp.specs.Messages.{IsMessage, IsScanned, MessageCause, unscanned};
+ghost use Rattle.resp.specs.Messages.{head_at, IsMessage, IsScanned, MessageCause, unscanned};
 
 use crate::fault::Fault;
 use crate::heads::{head_of, line_from, searched_of};
@@ -64,8 +64,14 @@ pub fn scan(progress: &mut Progress, bytes: &[u8]) -> Result<usize, Fault>
     ensures next { OnOk result (progress.new ≡ unscanned) }
     ensures malformed { IfErr result (λ fault. fault ≢ Fault.Incomplete
         → (fault ≡ Fault.Malformed) × (progress.new ≡ progress.old)) }
-    // This holds for any progress.
+    // No whole head stands after the bytes that were stepped over.
+    ensures onward { IsScanned progress.old bytes.now → result ≡ Err Fault.Incomplete
+        → head_at (drop progress.new.bytes bytes.now) ≡ Err Fault.Incomplete }
+    // The rest holds for any progress.
     ensures within { IfOk result (λ len. len ≤ length bytes.now) }
+    ensures some { IfOk result (λ len. 0 < len) }
+    ensures inside { result ≡ Err Fault.Incomplete → (progress.new ≡ progress.old)
+        ⊎ (progress.new.bytes + progress.new.searched ≤ length bytes.now) }
     ensures beyond { length bytes.now < progress.old.bytes + progress.old.searched
         → (result ≡ Err Fault.Incomplete) × (progress.new ≡ progress.old) }
 {

@@ -1,4 +1,4 @@
-ghost use Rattle.std.specs.Prelude.{◌≡◌, ◌++◌, ◌≤◌, ◌<◌, ◌^◌, ◌↔◌, length, decimal, map, OnOk, IfOk, IfErr, IsTrue, Ok};
+ghost use Rattle.std.specs.Prelude.{ℕ, List, ◌≡◌, ◌++◌, ◌≤◌, ◌<◌, ◌^◌, ◌↔◌, length, decimal, map, OnOk, IfOk, IfErr, IsTrue, Ok};
 ghost use Rattle.std.specs.List.{flat_map, AllByRecursion};
 ghost use Rattle.resp_core.specs.Reply.{simple, replies_of};
 ghost use Rattle.resp_core.specs.View.{view};
@@ -54,6 +54,8 @@ pub fn push_command(out: &mut Vec<u8>, command: &Cmd) -> Result<(), AllocError>
     ensures bytes { OnOk result (out.new.items ≡ out.old.items ++ request command.now) }
     // `read_request` reads the appended bytes as this command.
     ensures readable { OnOk result (IsRequest command.now (request command.now)) }
+    // What was there stays.
+    ensures before { (more : List ℕ) × (out.new.items ≡ out.old.items ++ more) }
 {
     push_count(out, b'*', command.len())?;
     for index in 0..command.len() {
@@ -70,7 +72,8 @@ pub fn push_command(out: &mut Vec<u8>, command: &Cmd) -> Result<(), AllocError>
 ///
 /// If memory runs out. Then the buffer may end with a beginning of the line.
 pub fn push_array_line(out: &mut Vec<u8>, count: usize) -> Result<(), AllocError>
-    ensures { OnOk result (out.new.items ≡ out.old.items ++ line 42 (decimal count)) }
+    ensures line { OnOk result (out.new.items ≡ out.old.items ++ line 42 (decimal count)) }
+    ensures before { (more : List ℕ) × (out.new.items ≡ out.old.items ++ more) }
 {
     push_count(out, b'*', count)
 }
@@ -83,6 +86,7 @@ pub fn push_array_line(out: &mut Vec<u8>, count: usize) -> Result<(), AllocError
 pub fn push_bulk(out: &mut Vec<u8>, bytes: &[u8]) -> Result<(), AllocError>
     ensures bytes { OnOk result (out.new.items ≡ out.old.items ++ bulk_form bytes.now) }
     ensures short { OnOk result (length bytes.now < 2 ^ 63) }
+    ensures before { (more : List ℕ) × (out.new.items ≡ out.old.items ++ more) }
 {
     push_count(out, b'$', bytes.len())?;
     out.extend_from_slice(bytes)?;
@@ -90,7 +94,8 @@ pub fn push_bulk(out: &mut Vec<u8>, bytes: &[u8]) -> Result<(), AllocError>
 }
 
 fn push_count(out: &mut Vec<u8>, mark: u8, count: usize) -> Result<(), AllocError>
-    ensures { OnOk result (out.new.items ≡ out.old.items ++ line mark (decimal count)) }
+    ensures line { OnOk result (out.new.items ≡ out.old.items ++ line mark (decimal count)) }
+    ensures before { (more : List ℕ) × (out.new.items ≡ out.old.items ++ more) }
 {
     if count < 10 {
         return out.extend_from_slice(&[mark, b'0' + count as u8, b'\r', b'\n']);
@@ -100,7 +105,8 @@ fn push_count(out: &mut Vec<u8>, mark: u8, count: usize) -> Result<(), AllocErro
 }
 
 fn push_line(out: &mut Vec<u8>, mark: u8, text: &[u8]) -> Result<(), AllocError>
-    ensures { OnOk result (out.new.items ≡ out.old.items ++ line mark text.now) }
+    ensures line { OnOk result (out.new.items ≡ out.old.items ++ line mark text.now) }
+    ensures before { (more : List ℕ) × (out.new.items ≡ out.old.items ++ more) }
 {
     out.push(mark)?;
     out.extend_from_slice(text)?;

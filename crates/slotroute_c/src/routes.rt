@@ -16,8 +16,8 @@ use crate::told::Told;
 use cluster_slots::SlotAddr;
 use redis_bytes::{BytesFault, registry_in};
 use redis_routing::{
-    AggregateOp, LogicalAggregateOp, MultipleNodeRoutingInfo, Names, ReadOnlyNames,
-    ResponsePolicy, Routable, RoutingInfo, SingleNodeRoutingInfo,
+    AggregateOp, LogicalAggregateOp, MultipleNodeRoutingInfo, Names, ReadOnlyNames, ResponsePolicy,
+    Routable, RoutingInfo, SingleNodeRoutingInfo,
 };
 use resp::{RequestError, read_request};
 use std::alloc::Global;

@@ -1,4 +1,4 @@
-ghost use Rattle.std.specs.Prelude.{◌≡◌, ◌≢◌, ◌<◌, ◌+◌, ◌++◌, ◌∷◌, [], ℕ, List, IsTrue, length};
+ghost use Rattle.std.specs.Prelude.{◌≡◌, ◌≢◌, ◌<◌, ◌≤◌, ◌+◌, ◌++◌, ◌∷◌, [], ℕ, List, IsTrue, length};
 ghost use Rattle.resp.specs.Messages.{IsMessage, IsScanned, MessageCause, unscanned};
 ghost use Rattle.resp.specs.declared.fault.Fault as replies;
 ghost use Rattle.slotroute_c.specs.Outcomes.{code, is_one_of, of_reply};
@@ -35,6 +35,9 @@ pub extern "C" fn slotroute_scan(bytes: &[u8], progress: &mut Progress) -> u32
     ensures malformed { result ≡ code Outcome.ReplyMalformed → progress.new ≡ progress.old }
     ensures beyond { length bytes.now < progress.old.bytes + progress.old.searched
         → (result ≡ code Outcome.ReplyIncomplete) × (progress.new ≡ progress.old) }
+    // This holds for any progress.
+    ensures within { result ≡ code Outcome.Done → (progress.new.bytes ≤ length bytes.now)
+        × (progress.new ≡ record unscanned { bytes = progress.new.bytes }) }
     ensures no_other { IsTrue (is_one_of result (Outcome.Done ∷ Outcome.ReplyIncomplete
         ∷ Outcome.ReplyMalformed ∷ [])) }
 {

@@ -92,3 +92,16 @@ returns-in-Err-clause-kept c = λ start was more.
     let line : Line at c.split_at.result.1.now c.line_from.result.0.now c.line_from.result.1.now = record { whole = c.line_from.ensures.whole; long = c.line_from.ensures.long; found = c.line_from.ensures.line } in
     let zeros = c.searched_of.ensures.zeros (searched_line at bytes c.split_at.result.1.now c.line_from.result.0.now c.line_from.result.1.now s c.split_at.ensures.back line) in
     scanned_longer _ bytes more (scanned_stop at bytes c.split_at.result.1.now c.line_from.result.0.now c.line_from.result.1.now s c.split_at.ensures.back line c.searched_of.result c.searched_of.ensures.within zeros)
+
+pub returns-in-Err-clause-onward : goal.returns-in-Err-clause-onward
+returns-in-Err-clause-onward c = λ start was.
+    let at = c.loop-items.at in
+    let bytes = c.args.bytes.now in
+    let s = c.loop-items.invariant.1 start in
+    let fault : c.in-Err.fault ≡ Incomplete = search rules in
+    head_is at bytes c.split_at.result.1.now c.line_from.result.0.now c.line_from.result.1.now s c.split_at.ensures.back (record { whole = c.line_from.ensures.whole; long = c.line_from.ensures.long; found = c.line_from.ensures.line }) ∙ c.in-Err.ensures ∙ ap (λ (f : Fault). Err f) fault
+
+pub returns-then-wanted-eq0-clause-some : goal.returns-then-wanted-eq0-clause-some
+returns-then-wanted-eq0-clause-some c =
+    let less = left_short c.args.bytes.now c.split_at.result.1.now c.line_from.result.0.now c.line_from.result.1.now c.in-Ok.left.now c.loop-items.at.bytes c.loop-items.at.searched c.in-Ok.items c.line_from.ensures.whole c.split_at.ensures.back_len c.in-Ok.ensures in
+    omega (arith, less)
