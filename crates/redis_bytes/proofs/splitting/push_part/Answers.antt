@@ -21,4 +21,4 @@ returns c =
     let args = map Some c.args.command.now in
     let indices = c.args.indices.now in
     let all = subst (λ (is : List ℕ). Adds c.push_name.new.out.items (map (λ i. argument args (i + c.args.words)) is) c.loop-index.out.items) (take_all c.loop-index.index-index indices (omega arith)) c.loop-index.invariant in
-    request_added c.args.words args indices c.args.out.now.items c.push_array_line.new.out.items c.push_name.new.out.items c.loop-index.out.items c.in_ok-push_array_line.ensures c.in_ok-push_name.ensures all
+    request_added c.args.words args indices c.args.out.now.items c.push_array_line.new.out.items c.push_name.new.out.items c.loop-index.out.items c.in_ok-push_array_line.ensures.line c.in_ok-push_name.ensures all
