@@ -11,8 +11,8 @@ import urllib.request
 from collections import Counter
 from contextlib import suppress
 
-from base import FIGURES, IS_CHECKED, OTHER, PORT, descriptors_of, example, is_open, memory_of, proxy, raw, rest_of
-from example import Client, others, request, said, until
+from outside import FIGURES, descriptors_of, memory_of, raw, rest_of
+from shared import Client, FAKE, IS_CHECKED, OTHER, PORT, is_open, others, proxy, request, said, until
 
 
 GARBAGE = [
@@ -184,7 +184,7 @@ class BadNode(socketserver.StreamRequestHandler):
     """A node that has all slots and answers `GET` with the key, unless it does one of several wrong things."""
 
     def handle(self):
-        slots = b"*1\r\n*3\r\n:0\r\n:16383\r\n*2\r\n$9\r\n127.0.0.1\r\n:%d\r\n" % example.FAKE
+        slots = b"*1\r\n*3\r\n:0\r\n:16383\r\n*2\r\n$9\r\n127.0.0.1\r\n:%d\r\n" % FAKE
         rng = random.Random()
         with suppress(OSError):
             while line := self.rfile.readline():
@@ -212,9 +212,9 @@ def try_bad_node():
                 is_error = isinstance(reply, str) and reply.startswith("-")
                 found["right" if reply == key.encode() else "error" if is_error else f"{key}: {reply}"] += 1
 
-    with socketserver.ThreadingTCPServer(("127.0.0.1", example.FAKE), BadNode) as node:
+    with socketserver.ThreadingTCPServer(("127.0.0.1", FAKE), BadNode) as node:
         threading.Thread(target=node.serve_forever).start()
-        with proxy(OTHER, example.FAKE, "--timeout", "500", "--quiet"):
+        with proxy(OTHER, FAKE, "--timeout", "500", "--quiet"):
             threads = [threading.Thread(target=ask, args=(it,)) for it in range(20)]
             for it in threads:
                 it.start()

@@ -7,8 +7,8 @@ import tempfile
 import threading
 import time
 
-from base import OTHER, PORT, PROGRAM, example, figures, is_open, proxy, raw, rest_of
-from example import Client, Move, others, request, until
+from outside import figures, raw, rest_of
+from shared import Client, Move, OTHER, PORT, PROGRAM, is_open, others, proxy, request, set_password, until
 
 
 def try_own():
@@ -49,14 +49,14 @@ def try_node_user():
     """Nodes that want a user and a password get both on each connection, also on one that a client has alone."""
     for port in range(PORT, PORT + 6):
         Client(port).ask("ACL", "SETUSER", "me", "on", ">word", "~*", "&*", "+@all")
-    example.set_password("secret")
+    set_password("secret")
     try:
         with proxy(OTHER, PORT, "--node-user", "me", "--node-password", "word"):
             client, subscriber = Client(OTHER), Client(OTHER)
             found = [client.ask("MSET", "foo", "1", "bar", "2"), subscriber.ask("SUBSCRIBE", "news"), client.ask("PUBLISH", "news", "x")]
             found += [subscriber.reply(), client.ask("BLPOP", "none", "0.1"), client.ask("MGET", "bar", "foo")]
     finally:
-        example.set_password("", "secret")
+        set_password("", "secret")
     print(found)
     return found[0] == "+OK" and found[3:] == [[b"message", b"news", b"x"], [], [b"2", b"1"]]
 

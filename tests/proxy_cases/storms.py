@@ -8,8 +8,8 @@ import threading
 import time
 from collections import Counter
 
-from base import OTHER, PORT, PROXY, example, figures, is_open, proxy
-from example import Client, port_of, primaries, process_of, request, slot_of, until
+from outside import figures
+from shared import Client, FOLDER, OTHER, PORT, PROXY, has_replica, is_open, port_of, primaries, process_of, proxy, request, slot_of, until
 
 
 COMMANDS = int(os.environ.get("COMMANDS", "100000"))
@@ -145,7 +145,7 @@ def try_storm():
 
 
 def restart(port):
-    folder = f"{example.FOLDER}/{port}"
+    folder = f"{FOLDER}/{port}"
     subprocess.run(
         ["redis-server", "--port", str(port), "--bind", "127.0.0.1", "--dir", folder, "--daemonize", "yes", "--pidfile", f"{folder}/pid",
          "--logfile", f"{folder}/log", "--save", "", "--appendonly", "no", "--cluster-enabled", "yes", "--cluster-node-timeout", "3000"],
@@ -160,7 +160,7 @@ def heal():
             restart(port)
     started = until(60, lambda: all(is_open(port) for port in range(PORT, PORT + 6)))
     served = until(60, lambda: "cluster_state:ok" in Client(PORT).ask("CLUSTER", "INFO").decode())
-    ready = until(60, lambda: all(example.has_replica(port, "state=online") for port in set(primaries().values())))
+    ready = until(60, lambda: all(has_replica(port, "state=online") for port in set(primaries().values())))
     if started is None or served is None or ready is None:
         raise AssertionError("the cluster is not whole")
 
@@ -216,7 +216,7 @@ def try_storm_hang():
 
 def stop_all(ports, signal_number):
     for port in ports:
-        os.kill(int(open(f"{example.FOLDER}/{port}/pid").read()), signal_number)
+        os.kill(int(open(f"{FOLDER}/{port}/pid").read()), signal_number)
 
 
 def try_all_gone():
@@ -251,7 +251,7 @@ def try_all_killed():
 
 def try_blocking_hang():
     """A client that waits for a node that hangs gets an error in time."""
-    key = next(it for it in map(str, range(100)) if example.has_replica(port_of(it)))
+    key = next(it for it in map(str, range(100)) if has_replica(port_of(it)))
     client, process = Client(), process_of(port_of(key))
     client.ask("DEL", key)
     client.socket.sendall(request("BLPOP", key, "0"))
