@@ -136,9 +136,9 @@ def try_back():
 
 
 def try_many():
-    """Five thousand clients at once."""
+    """Five thousand clients at once, or CLIENTS."""
     with proxy(OTHER, PORT, "--threads", "2") as (process, _, _):
-        clients = [Client(OTHER) for _ in range(5000)]
+        clients = [Client(OTHER) for _ in range(int(os.environ.get("CLIENTS", "5000")))]
         start = time.monotonic()
         for at, it in enumerate(clients):
             it.socket.sendall(request("SET", f"many{at}", at) + request("GET", f"many{at}"))
