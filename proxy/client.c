@@ -93,7 +93,7 @@ void client_free(client *it) {
 static bool may_read(const client *it) {
     return !it->is_ending && !it->is_alone && it->doom == NULL && it->queued < MOST_QUEUED &&
            buffer_len(&it->out) + it->queued * it->reply_len < MOST_UNREAD &&
-           it->queued_bytes < the_proxy.settings.client_memory / 4;
+           it->queued_bytes < the_proxy.settings.client_memory / 4 && it->queued_parts < MOST_PARTS;
 }
 
 /* Refuses a command, with its name. */
@@ -141,8 +141,9 @@ static bool take(client *it, const uint8_t *bytes, size_t len) {
 /* Takes the requests that have come whole, as far as the client may be read. Returns how many bytes they
  * have. */
 static size_t take_requests(client *it, const uint8_t *bytes, size_t len) {
-    size_t used = 0, end = 0, most = it->is_known ? the_proxy.settings.max_message : STRANGER;
+    size_t used = 0, end = 0;
     while (used < len && may_read(it)) {
+        size_t most = it->is_known ? the_proxy.settings.max_message : STRANGER; /* AUTH may have changed it */
         whole found = layer_request(bytes + used, len - used, &it->progress, &end);
         bool is_long = (found == IS_WHOLE ? end : len - used) > most;
         if (found == IS_MALFORMED || is_long) {

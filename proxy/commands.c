@@ -161,9 +161,10 @@ static command_kind with_second(char *name, size_t len, words words) {
     return len == 0 || memchr(name, 0, len) != NULL ? COMMAND_UNKNOWN : place_of(name, len)->kind;
 }
 
+/* Whether a word is BLOCK. A key of this name counts as well: a group may be named as any other word. */
 static bool has_block(words words) {
     word it;
-    while (words_next(&words, &it) && !word_is(it, "STREAMS"))
+    while (words_next(&words, &it))
         if (word_is(it, "BLOCK"))
             return true;
     return false;

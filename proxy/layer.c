@@ -34,7 +34,9 @@ whole layer_request(const uint8_t *bytes, size_t len, slotroute_progress *progre
     *progress = (slotroute_progress){0};
     uint32_t answer = slotroute_request_len(bytes, len, &told);
     *end = told.bytes;
-    return answer == SLOTROUTE_DONE ? IS_WHOLE : answer == SLOTROUTE_REQUEST_INCOMPLETE ? IS_PIECE : IS_MALFORMED;
+    return answer == SLOTROUTE_DONE                 ? IS_WHOLE
+           : answer == SLOTROUTE_REQUEST_INCOMPLETE ? IS_PIECE
+                                                    : IS_MALFORMED;
 }
 
 whole layer_reply(const uint8_t *bytes, size_t len, slotroute_progress *progress, size_t *end) {
@@ -56,8 +58,8 @@ bool layer_split(const uint8_t *request, size_t len, split *split) {
     uint32_t answer;
     do {
         make_room(told.bytes, told.parts);
-        answer = slotroute_split(request, len, NULL, 0, slots, parts_room, ends, parts_room, out, out_room,
-                                 &told);
+        answer =
+            slotroute_split(request, len, NULL, 0, slots, parts_room, ends, parts_room, out, out_room, &told);
     } while (answer == SLOTROUTE_TOO_SMALL);
     *split = (struct split){slots, ends, out, told.parts, told.bytes};
     return answer == SLOTROUTE_DONE;
@@ -93,8 +95,8 @@ static bool read_map(const buffer *reply, const char *host, uint32_t addr, size_
     uint32_t answer;
     do {
         make_room(told.bytes, 1);
-        answer = slotroute_table(buffer_at(reply), buffer_len(reply), (const uint8_t *)host, strlen(host), addr,
-                                 pick, numbers, SLOTROUTE_SLOTS, out, out_room, &told);
+        answer = slotroute_table(buffer_at(reply), buffer_len(reply), (const uint8_t *)host, strlen(host),
+                                 addr, pick, numbers, SLOTROUTE_SLOTS, out, out_room, &told);
     } while (answer == SLOTROUTE_TOO_SMALL);
     if (answer != SLOTROUTE_DONE || told.bytes == 0)
         return false;
@@ -124,8 +126,8 @@ bool layer_redirect(const uint8_t *error, size_t len, const char *answering, red
     uint8_t host[HOST_ROOM - 1] = {0};
     if (len < 3 || error[0] != '-')
         return false;
-    uint32_t answer = slotroute_redirect(error + 1, len - 3, (const uint8_t *)answering, strlen(answering), host,
-                                         sizeof host, &redirect->to);
+    uint32_t answer = slotroute_redirect(error + 1, len - 3, (const uint8_t *)answering, strlen(answering),
+                                         host, sizeof host, &redirect->to);
     if (answer != SLOTROUTE_DONE || memchr(host, 0, redirect->to.host_len) != NULL)
         return false;
     memcpy(redirect->host, host, redirect->to.host_len);

@@ -72,8 +72,7 @@ void node_make_room(node *it) {
 void node_send(node *it, const void *bytes, size_t len) {
     if (it->state == NODE_CLOSED && it->lost == NULL)
         node_open(it);
-    if (it->count == 0 && it->state == NODE_OPEN)
-        it->heard = it->worker->now;
+    it->is_new = it->is_new || it->count == 0;
     buffer_put(&it->out, bytes, len);
     it->given += len;
     node_touch(it);
@@ -209,6 +208,9 @@ static void lose(node *it) {
 void node_settle(node *it) {
     it->is_dirty = false;
     if (it->state == NODE_OPEN && it->lost == NULL) {
+        if (it->is_new) /* the node is silent from here on, and not from before a long round */
+            it->heard = clock_now();
+        it->is_new = false;
         int64_t written = peer_write(&it->peer, &it->out);
         if (written < 0)
             node_doom(it, strerror(errno));
@@ -232,12 +234,12 @@ void node_tick(node *it) {
         private_tick(it);
         return;
     }
-    if (owes && it->lost == NULL && it->worker->now - it->heard > limit)
+    if (owes && it->lost == NULL && it->worker->now > it->heard + limit)
         node_doom(it, it->state == NODE_OPEN ? "silent for too long" : "no connection in time");
-    if (owes && it->worker->now - it->heard > limit / 4)
+    if (owes && it->worker->now > it->heard + limit / 4)
         topology_want(it->worker);
     if (it->state == NODE_OPEN && !it->is_in_map && it->count == 0 &&
-        it->worker->now - it->heard > 10 * SECOND)
+        it->worker->now > it->heard + 10 * SECOND)
         node_doom(it, "it is not needed");
 }
 

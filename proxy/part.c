@@ -47,6 +47,7 @@ static void unqueue(client *client, size_t reply_len) {
         client->last = NULL;
     client->queued--;
     client->queued_bytes -= it->len;
+    client->queued_parts -= it->parts;
     client->is_alone = false;
     client->reply_len = (7 * client->reply_len + reply_len) / 8;
     stats_took(&client->worker->stats, client->worker->now - it->start);

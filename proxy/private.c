@@ -40,7 +40,7 @@ void private_tick(node *own) {
         return;
     if (shared->is_failing && shared->failed > own->heard)
         node_doom(own, "the node does not answer");
-    else if (shared->count == 0 && worker->now - shared->heard > pause)
+    else if (shared->count == 0 && worker->now > shared->heard + pause)
         node_ask(shared, ping, sizeof ping - 1, (waiter){.waits = WAITS_NOTHING});
 }
 

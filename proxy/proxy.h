@@ -8,10 +8,8 @@
 #include "stats.h"
 
 enum { MOST_NODES = 4096, NO_SLOT = 65535, SMALL_REPLY = 40, SMALL_ERROR = 512, READ_ROOM = 65536 };
-enum {
-    MOST_QUEUED = 256,
-    MOST_UNREAD = 1 << 20
-}; /* requests and bytes of replies, before a client has to wait */
+/* Requests and parts on the way, and bytes of unread replies, from which on a client has to wait. */
+enum { MOST_QUEUED = 256, MOST_PARTS = 4096, MOST_UNREAD = 1 << 20 };
 enum { MILLISECOND = 1000, SECOND = 1000000 }; /* in microseconds, in which all times are */
 enum { PAUSE = 20 * MILLISECOND, LONGER_PAUSE = 50 * MILLISECOND };
 
@@ -77,7 +75,7 @@ struct client {
     buffer in, out;
     slotroute_progress progress;
     request *first, *last; /* in the order of their replies */
-    size_t queued, queued_bytes;
+    size_t queued, queued_parts, queued_bytes;
     size_t reply_len;                     /* of its replies, about: those of late count most */
     size_t held;                          /* parts that are HELD or AGAIN */
     uint64_t read_at;                     /* when it last took bytes of its replies, or had none to take */
@@ -131,6 +129,7 @@ struct node {
     node *next_dirty, *next_left;
     client *client; /* who has it alone, or NULL */
     bool is_dirty, is_failing, is_in_map, is_private;
+    bool is_new; /* what it owes was asked for since the last write */
 };
 
 /* Where slots are. */

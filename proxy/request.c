@@ -34,6 +34,7 @@ static request *request_new(client *client, const uint8_t *bytes, size_t len, ui
     client->last = it;
     client->queued++;
     client->queued_bytes += len;
+    client->queued_parts += it->parts;
     return it;
 }
 
@@ -167,5 +168,12 @@ void requests_disown(client *client) {
         it = next;
     }
     client->first = client->last = NULL;
-    client->queued = client->queued_bytes = client->held = 0;
+    client->queued = client->queued_parts = client->queued_bytes = client->held = 0;
+}
+
+size_t request_kept(const request *it) {
+    size_t bytes = 0;
+    for (uint32_t at = 0; at < it->parts; at++)
+        bytes += it->part[at].reply_len;
+    return bytes;
 }

@@ -38,6 +38,9 @@ void requests_answer(client *client);
 
 void request_free(request *request);
 
+/* How many bytes of replies a request keeps. */
+size_t request_kept(const request *request);
+
 /* The client has gone: its requests belong to nobody. */
 void requests_disown(client *client);
 

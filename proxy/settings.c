@@ -50,7 +50,7 @@ static bool read_number(const row *row, const char *value, uint64_t *number) {
     char *end = NULL;
     errno = 0;
     unsigned long long found = strtoull(value, &end, 10);
-    if (end == value || *value == '-' || errno != 0)
+    if (*value < '0' || *value > '9' || errno != 0)
         return false;
     for (size_t at = 0; at < (row->kind == SIZE ? 4 : 1); at++) {
         if (strcasecmp(end, units[at].name) != 0 || found > row->most / units[at].bytes)

@@ -6,6 +6,7 @@
 #include "order.h"
 #include "peer.h"
 #include "private.h"
+#include "request.h"
 #include "topology.h"
 
 #include <errno.h>
@@ -92,6 +93,8 @@ static void close_largest(worker *it) {
     size_t most = 0;
     for (client *at = it->clients; at != NULL; at = at->next) {
         size_t bytes = buffer_len(&at->in) + buffer_len(&at->out) + buffer_len(&at->multi) + at->queued_bytes;
+        for (request *waits = at->first; waits != NULL; waits = waits->next)
+            bytes += request_kept(waits);
         largest = bytes > most ? at : largest;
         most = bytes > most ? bytes : most;
     }

@@ -8,7 +8,7 @@ import threading
 import time
 
 from outside import figures, raw, rest_of
-from shared import Client, Move, OTHER, PORT, PROGRAM, is_open, others, proxy, request, set_password, until
+from shared import Client, FAKE, Move, OTHER, PORT, PROGRAM, is_open, others, proxy, request, set_password, slot_of, until
 
 
 def try_own():
@@ -204,3 +204,35 @@ def try_subscription():
     print(found)
     wanted = [[b"message", b"news", b"%d" % it] for it in range(3)]
     return found[2:5] == wanted and found[5:7] == [[b"pong", b""], "-ERR"] and found[-2:] == ["+OK", b"1"]
+
+
+def try_forged():
+    """A script that makes up a redirect moves no slot: the others go on, and no other host is asked."""
+    client, asked = Client(), []
+    client.ask("SET", "foo", "1")
+    with socket.create_server(("127.0.0.1", FAKE)) as host:
+        host.settimeout(1)
+        for kind in ("MOVED", "ASK"):
+            script = f"return redis.error_reply('{kind} {slot_of('foo')} 127.0.0.1:{FAKE}')"
+            asked.append(client.ask("EVAL", script, "1", "foo")[:9])
+        found = Client().ask("GET", "foo")
+        try:
+            host.accept()
+            asked.append("the host was asked")
+        except TimeoutError:
+            pass
+    print(asked, found)
+    return asked == ["-TRYAGAIN"] * 2 and found == b"1"
+
+
+def try_group():
+    """A command that waits does so on a connection of the client's own, whatever its words are named."""
+    waiting, client, start = Client(), Client(), time.monotonic()
+    client.ask("DEL", "{foo}log")
+    client.ask("XGROUP", "CREATE", "{foo}log", "STREAMS", "$", "MKSTREAM")
+    waiting.socket.sendall(request("XREADGROUP", "GROUP", "STREAMS", "me", "BLOCK", "3000", "STREAMS", "{foo}log", ">"))
+    time.sleep(0.2)
+    start = time.monotonic()
+    found, took = client.ask("SET", "{foo}x", "1"), time.monotonic() - start
+    print(found, f"{took:.2f} s", waiting.reply())
+    return found == "+OK" and took < 1
