@@ -138,12 +138,12 @@ typedef struct slotroute_routed {
 } slotroute_routed;
 
 /* Five calls take names: a text that registers commands of a module that are split by slot, or
- * nothing. A line has four fields, with spaces between them: multi PATTERN POLICY NAME. A name of two
- * words takes two fields. No name is registered twice. PATTERN says how the arguments make keys: keys, pairs (a key and a value),
- * last (keys, and one argument for all), triples. POLICY says how the replies make one: ok, sum or
- * list. So `multi keys sum COUNTKEYS` registers a command that is split as DEL. A name of the
- * library's tables, as MGET, is refused with SLOTROUTE_BAD_NAME. Empty lines are not counted. Each
- * call reads the text anew. */
+ * nothing. A line has four fields, with spaces between them: multi PATTERN POLICY NAME. A name of
+ * two words takes two fields. No name is registered twice. PATTERN says how the arguments make keys:
+ * keys, pairs (a key and a value), last (keys, and one argument for all), triples. POLICY says how
+ * the replies make one: ok, sum or list. So `multi keys sum COUNTKEYS` registers a command that is
+ * split as DEL. A name of the library's tables, as MGET, is refused with SLOTROUTE_BAD_NAME. Empty
+ * lines are not counted. Each call reads the text anew. */
 
 /* Where a request goes. only_reads is not 0 if its command only reads, so that a replica may serve
  * it. A command that names a slot by its number, as CLUSTER ADDSLOTS 5, goes to the primary either
