@@ -60,15 +60,15 @@ pub fn split_pipeline(
     let commands = commands_in(alloc, requests)?;
     let (tasks, nodes) = tasks_by(alloc, commands.as_slice(), registry, numbers)?;
     let plan = plan_of(alloc, tasks, nodes.as_slice())?;
-    Ok(batches_of(alloc, &plan)?)
+    Ok(batches_of(alloc, &plan, requests.len())?)
 }
 
-/// The batches of a plan.
-fn batches_of(alloc: Global, plan: &PipelinePlan<'_>) -> Result<BatchBytes, AllocError>
+/// The batches of a plan, which have about `room` bytes.
+fn batches_of(alloc: Global, plan: &PipelinePlan<'_>, room: usize) -> Result<BatchBytes, AllocError>
     ensures { IfOk result (λ found. AreBatchesOf plan.now.batches found) }
 {
     let nodes = numbers_of(alloc, plan)?;
-    let (counts, ends, bytes) = written(alloc, plan)?;
+    let (counts, ends, bytes) = written(alloc, plan, room)?;
     Ok(BatchBytes {
         nodes,
         counts,
@@ -96,6 +96,7 @@ fn numbers_of(alloc: Global, plan: &PipelinePlan<'_>) -> Result<Vec<u16>, AllocE
 fn written(
     alloc: Global,
     plan: &PipelinePlan<'_>,
+    room: usize,
 ) -> Result<(Vec<usize>, Vec<usize>, Vec<u8>), AllocError>
     ensures counts { IfOk result (λ x. x.0.items ≡ map length plan.now.batches.places) }
     ensures ends { IfOk result (λ x. x.1.items
@@ -105,7 +106,7 @@ fn written(
 {
     let mut counts = Vec::with_capacity(alloc, plan.len())?;
     let mut ends = Vec::with_capacity(alloc, plan.len())?;
-    let mut bytes = Vec::new(alloc);
+    let mut bytes = Vec::with_capacity(alloc, room)?;
     for number in 0..plan.len() {
         let count = push_batch(alloc, plan, number, &mut bytes)?;
         counts.push(count)?;

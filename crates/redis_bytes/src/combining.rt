@@ -14,7 +14,7 @@ use crate::fault::BytesFault;
 use crate::merging::merged;
 use crate::places::places_in;
 use crate::replies::replies_in;
-use crate::requests::command_in;
+use crate::requests::request_in;
 use redis_cluster::driver::join_replies;
 use redis_routing::{Names, ResponsePolicy, Routable, SplitCommand};
 use resp::{WriteError, write};
@@ -54,7 +54,7 @@ pub fn combine(
     ensures fault { IfErr result
         (λ fault. IsUncombined (names_in names.entry) request.now replies.now fault) }
 {
-    let command = command_in(alloc, request)?;
+    let command = request_in(alloc, request)?;
     let Some(split) = SplitCommand::new(alloc, &command, names)? else {
         return Err(BytesFault::NotMultiKey);
     };

@@ -6,7 +6,7 @@ ghost use Rattle.redis_routing.specs.RoutingInfo.{as_routing};
 ghost use Rattle.redis_bytes.specs.Requests.{Words, IsUnread};
 
 use crate::fault::BytesFault;
-use crate::requests::command_in;
+use crate::requests::request_in;
 use redis_routing::{Names, RoutingInfo};
 use std::alloc::Global;
 
@@ -35,6 +35,6 @@ pub fn route(
     // Each fault has its cause.
     ensures fault { IfErr result (λ fault. IsUnread request.now fault) }
 {
-    let command = command_in(alloc, request)?;
+    let command = request_in(alloc, request)?;
     Ok(RoutingInfo::for_routable_with(alloc, &command, names.read_only, names.registry)?)
 }

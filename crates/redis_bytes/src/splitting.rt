@@ -10,11 +10,10 @@ ghost use Rattle.redis_routing.specs.Split.{Split, slots_of, split_part};
 ghost use Rattle.redis_bytes.specs.Requests.{IsSplitRequest, AreParts, AreWritten, IsUnsplit, Words};
 
 use crate::fault::BytesFault;
-use crate::requests::command_in;
+use crate::requests::{Request, request_in};
 use cluster_slots::Route;
 use redis_routing::{Names, Routable, SplitCommand, name_words};
 use resp::{push_array_line, push_bulk};
-use resp_core::Cmd;
 use std::alloc::{AllocError, Global};
 
 /// The parts of a request: for each its route, and where its bytes end among those of all parts.
@@ -47,7 +46,7 @@ pub fn split(alloc: Global, request: &[u8], names: Names<'_>) -> Result<Parts, B
     // Each fault has its cause.
     ensures fault { IfErr result (λ fault. IsUnsplit (names_in names.entry) request.now fault) }
 {
-    let command = command_in(alloc, request)?;
+    let command = request_in(alloc, request)?;
     let Some(split) = SplitCommand::new(alloc, &command, names)? else {
         return Err(BytesFault::NotMultiKey);
     };
@@ -57,8 +56,8 @@ pub fn split(alloc: Global, request: &[u8], names: Names<'_>) -> Result<Parts, B
 /// The parts of a split command, which have about so many bytes.
 fn parts_of(
     alloc: Global,
-    split: &SplitCommand<'_, Cmd>,
-    command: &Cmd,
+    split: &SplitCommand<'_, Request<'_>>,
+    command: &Request<'_>,
     room: usize,
 ) -> Result<Parts, AllocError>
     requires { split.now.arguments ≡ map Some command.now }
@@ -88,8 +87,8 @@ fn routes_in(alloc: Global, routes: &[(Route, Vec<usize>)]) -> Result<Vec<Route>
 fn push_parts(
     alloc: Global,
     out: &mut Vec<u8>,
-    split: &SplitCommand<'_, Cmd>,
-    command: &Cmd,
+    split: &SplitCommand<'_, Request<'_>>,
+    command: &Request<'_>,
 ) -> Result<Vec<usize>, AllocError>
     requires empty { out.old.items ≡ [] }
     requires command { split.now.arguments ≡ map Some command.now }
@@ -108,7 +107,7 @@ fn push_parts(
 /// Appends the request of the words of a name and the arguments at these indices after them.
 fn push_part(
     out: &mut Vec<u8>,
-    command: &Cmd,
+    command: &Request<'_>,
     words: usize,
     indices: &[usize],
 ) -> Result<(), AllocError>
@@ -126,14 +125,14 @@ fn push_part(
 }
 
 /// The argument at this index after the words of the name.
-fn arg_after(command: &Cmd, words: usize, index: usize) -> Option<&[u8]>
+fn arg_after<'a>(command: &'a Request<'_>, words: usize, index: usize) -> Option<&'a [u8]>
     ensures { option_copied result ≡ argument (map Some command.now) (index + words) }
 {
     Routable::arg_idx(command, index.saturating_add(words))
 }
 
 /// Appends the words of a command's name.
-fn push_name(out: &mut Vec<u8>, command: &Cmd, words: usize) -> Result<(), AllocError>
+fn push_name(out: &mut Vec<u8>, command: &Request<'_>, words: usize) -> Result<(), AllocError>
     ensures { OnOk result ((name : Words)
         → all_some (map (argument (map Some command.now)) (range_with_len 0 words)) ≡ Some name
         → out.new.items ≡ out.old.items ++ flat_map bulk_form name) }

@@ -17,7 +17,7 @@ mod writing;
 pub use fault::{Fault, ReadError, RequestError, RequestFault, WriteError};
 pub use items::push_items;
 pub use reading::{MAX_LEVELS, read};
-pub use requests::{read_request, request_len};
+pub use requests::{read_args, read_request, request_len};
 pub use response::Response;
 pub use scanning::{Progress, reply_len, scan};
 pub use writing::{push_array_line, push_bulk, push_command, write, write_command};

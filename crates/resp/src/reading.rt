@@ -11,6 +11,9 @@ use std::alloc::Global;
 /// Largest number of arrays nested in one another, the outermost included.
 pub const MAX_LEVELS: u8 = 32;
 
+/// The most items that room is made for at first, since a count may announce any number.
+pub(super) const MOST_ITEMS: u64 = 16;
+
 /// Reads the reply at the front of some bytes, and returns it with the bytes after it.
 ///
 /// Any bytes may be passed. An array that holds an error at any depth is read as its first error. A
@@ -99,7 +102,7 @@ fn items_at(
     ensures { Gives (λ x. (answers_in x.0, x.1.now)) result
         (times_at (answer_at levels) count bytes.now) }
 {
-    let mut items = Ok(Vec::new(alloc));
+    let mut items = Ok(Vec::with_capacity(alloc, count.min(MOST_ITEMS) as usize)?);
     let mut rest = bytes;
     for _ in 0..count {
         let (response, after) = response_at(alloc, rest, levels)?;

@@ -1,18 +1,13 @@
-ghost use Rattle.std.specs.Prelude.{◌≡◌, ◌++◌, ◌<◌, ◌^◌, ℕ, List, length, Ok, true, false, IfOk, IfErr, MatchResult};
+ghost use Rattle.std.specs.Prelude.{◌≡◌, ◌++◌, ◌<◌, ◌^◌, ℕ, List, length, map, Ok, true, false, IfOk, IfErr, MatchResult};
 ghost use Rattle.resp.specs.Forms.{IsRequest};
 ghost use Rattle.resp.specs.Reading.{IsRead, rest_of};
 ghost use Rattle.resp.specs.Requests.{Tells, byte_at, with_digit, digits_at, line_at, so_many_at, bulk_at, bulks_at, request_at, IsStopIn, fault_at, RequestCause, RequestErrorCause};
 
 use crate::fault::{RequestError, RequestFault};
+use crate::reading::MOST_ITEMS;
 use crate::stop::{Stop, Unread};
 use resp_core::Cmd;
-use std::alloc::Global;
-
-/// The most arguments that room is made for at first, since a count may announce any number.
-const MOST_ITEMS: u64 = 8;
-
-/// The most bytes that room is made for at first.
-const MOST_BYTES: usize = 64;
+use std::alloc::{AllocError, Global};
 
 /// Reads the request at the front of some bytes, and returns it with the bytes after it. A request
 /// is an array of bulk strings, as `*1\r\n$4\r\nPING\r\n`.
@@ -39,11 +34,43 @@ pub fn read_request(alloc: Global, bytes: &[u8]) -> Result<(Cmd, &[u8]), Request
     // the first that no request can have there.
     ensures cause { IfErr result (λ e. RequestErrorCause bytes.now e) }
 {
-    match command_at(alloc, bytes) {
+    let (args, rest) = read_args(alloc, bytes)?;
+    match command_of(alloc, &args, bytes.len() - rest.len()) {
+        Ok(command) => Ok((command, rest)),
+        Err(_) => Err(RequestError::Memory),
+    }
+}
+
+/// Reads a request as `read_request` does, and copies nothing: the arguments are pieces of the bytes.
+///
+/// # Errors
+///
+/// As `read_request`.
+pub fn read_args(alloc: Global, bytes: &[u8]) -> Result<(Vec<&[u8]>, &[u8]), RequestError>
+    ensures found { IfOk result (λ x. (form : List ℕ) × (bytes.now ≡ form ++ x.1.now)
+        × IsRequest (map (λ arg. arg.now) x.0.items) form) }
+    ensures only { (args : List (List ℕ)) (form rest : List ℕ) → IsRequest args form
+        → bytes.now ≡ form ++ rest
+        → MatchResult result (λ x. (map (λ arg. arg.now) x.0.items ≡ args) × (x.1.now ≡ rest))
+        (λ e. e ≡ RequestError.Memory) }
+    ensures cause { IfErr result (λ e. RequestErrorCause bytes.now e) }
+{
+    match args_at(alloc, bytes) {
         Ok(found) => Ok(found),
         Err(Unread::Memory) => Err(RequestError::Memory),
         Err(Unread::Stopped(stop)) => Err(RequestError::Fault(fault_at(bytes, stop))),
     }
+}
+
+/// The command with these arguments, which have at most `room` bytes.
+fn command_of(alloc: Global, args: &[&[u8]], room: usize) -> Result<Cmd, AllocError>
+    ensures { IfOk result (λ command. command ≡ map (λ arg. arg.now) args.now) }
+{
+    let mut command = Cmd::with_room(alloc, args.len(), room)?;
+    for arg in args {
+        command.write_arg(*arg)?;
+    }
+    Ok(command)
 }
 
 /// Number of bytes of the request at the front. Takes no memory.
@@ -75,25 +102,26 @@ fn fault_at(bytes: &[u8], stop: Stop) -> RequestFault
     }
 }
 
-/// The command at the front.
+/// The arguments of the request at the front, and what follows it.
 #[tactic(auto, unfolding(crate::specs::Requests::request_at))]
-fn command_at(alloc: Global, bytes: &[u8]) -> Result<(Cmd, &[u8]), Unread>
-    ensures { Tells (λ x. (x.0, x.1.now)) result (request_at bytes.now) }
+fn args_at(alloc: Global, bytes: &[u8]) -> Result<(Vec<&[u8]>, &[u8]), Unread>
+    ensures { Tells (λ x. (map (λ arg. arg.now) x.0.items, x.1.now)) result
+        (request_at bytes.now) }
 {
     let (count, rest) = line_at(bytes, b'*')?;
     bulks_at(alloc, count, rest)
 }
 
 /// `count` bulk strings.
-fn bulks_at(alloc: Global, count: u64, bytes: &[u8]) -> Result<(Cmd, &[u8]), Unread>
-    ensures { Tells (λ x. (x.0, x.1.now)) result (bulks_at count bytes.now) }
+fn bulks_at(alloc: Global, count: u64, bytes: &[u8]) -> Result<(Vec<&[u8]>, &[u8]), Unread>
+    ensures { Tells (λ x. (map (λ arg. arg.now) x.0.items, x.1.now)) result
+        (bulks_at count bytes.now) }
 {
-    let few = count.min(MOST_ITEMS) as usize;
-    let mut words = Cmd::with_room(alloc, few, bytes.len().min(MOST_BYTES))?;
+    let mut words = Vec::with_capacity(alloc, count.min(MOST_ITEMS) as usize)?;
     let mut rest = bytes;
     for _ in 0..count {
         let (word, after) = bulk_at(rest)?;
-        words.write_arg(word)?;
+        words.push(word)?;
         rest = after;
     }
     Ok((words, rest))

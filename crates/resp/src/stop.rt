@@ -1,7 +1,7 @@
 ghost use Rattle.std.specs.Prelude.{◌≡◌};
 ghost use Rattle.resp.specs.declared.stop.Unread.TheVariants as unread;
 
-use std::alloc::AllocError;
+use std::alloc::{AllocError, AllocFailed};
 
 /// Where the reading of a request stopped.
 #[derive(Clone, Copy)]
@@ -23,6 +23,14 @@ impl From<AllocError> for Unread {
     ghost from_gives = { λ _ e. e ≡ unread.Memory };
 
     fn from(_e: AllocError) -> Unread {
+        Unread::Memory
+    }
+}
+
+impl<T: Drop> From<AllocFailed<T>> for Unread {
+    ghost from_gives = { λ _ e. e ≡ unread.Memory };
+
+    fn from(_e: AllocFailed<T>) -> Unread {
         Unread::Memory
     }
 }

@@ -10,6 +10,9 @@ use itoa::Buffer;
 use resp_core::{Cmd, Value};
 use std::alloc::{AllocError, Global};
 
+/// The bytes that room is made for at first, as for most replies.
+const SHORT_BYTES: usize = 64;
+
 /// The bytes of a value. `read` reads them as the same value.
 ///
 /// # Errors
@@ -27,7 +30,7 @@ pub fn write(alloc: Global, value: &Value) -> Result<Vec<u8>, WriteError>
     ensures refused { HasForm (view value.now) → depth (view value.now) ≤ MAX_LEVELS
         → IfErr result (λ e. e ≡ WriteError.Memory) }
 {
-    let mut out = Vec::new(alloc);
+    let mut out = Vec::with_capacity(alloc, SHORT_BYTES)?;
     push_value(&mut out, value, MAX_LEVELS)?;
     Ok(out)
 }

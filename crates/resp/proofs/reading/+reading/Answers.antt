@@ -13,7 +13,7 @@ use Rattle.resp.proofs.reading.+reading.Goals as goal
 
 pub items_at-returns-in_err-response : goal.items_at-returns-in_err-response
 items_at-returns-in_err-response t c =
-    let p = err_from_is_err_and c.from_residual.result c.from_residual.ensures.1 in
+    let p = err_from_is_err_and c.from_residual-in_err-response.result c.from_residual-in_err-response.ensures.1 in
     rw (p.1, p.2) (ends (answer_at c.args.levels) c.in_err-response.field-0.0 (answers_in c.loop.items) c.args.count c.loop.counter c.loop.rest.now (times_at (answer_at c.args.levels) c.args.count c.args.bytes.now) c.loop-test.true c.in_err-response.ensures c.loop.invariant)
 
 pub items_at-loop-preserved : goal.items_at-loop-preserved

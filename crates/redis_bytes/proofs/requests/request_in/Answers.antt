@@ -4,7 +4,7 @@ use Rattle.std.proofs.lemmas.List.{append-nil}
 use Rattle.resp.specs.declared.fault.RequestFault.{RequestFault}
 use Rattle.resp.specs.declared.fault.RequestError.{RequestError}
 use Rattle.resp.specs.declared.fault.RequestError.TheVariants as errors
-use Rattle.redis_bytes.proofs.requests.command_in.Goals as goal
+use Rattle.redis_bytes.proofs.requests.request_in.Goals as goal
 
 abbrev of_fault : RequestFault → RequestError
 of_fault fault = errors.Fault fault
@@ -14,7 +14,7 @@ no_memory fault e = absurd cc
 
 pub returns-in-Err-Fault-clause-only : goal.returns-in-Err-Fault-clause-only
 returns-in-Err-Fault-clause-only c = λ words is.
-    let request = c.args.request.now in
+    let request = c.args.bytes.now in
     let only = rw c.in-Err-Fault.field-0-is at c.in-Err-Fault.ensures.only in
     absurd (no_memory c.in-Err-Fault.fault (only words request [] is (sym (append-nil request))))
 
@@ -23,10 +23,10 @@ returns-in-Err-Fault-clause-fault c = rw c.in-Err-Fault.field-0-is at c.in-Err-F
 
 pub returns-then-not-is_empty-clause-only : goal.returns-then-not-is_empty-clause-only
 returns-then-not-is_empty-clause-only c = λ words is.
-    let request = c.args.request.now in
+    let request = c.args.bytes.now in
     let some : 0 < length c.in-Ok.found.1.now = grind (arith, nat_tests) in
     let none : length c.in-Ok.found.1.now ≡ 0 = ap (length {A = ℕ}) (c.in-Ok.ensures.only words request [] is (sym (append-nil request))).1 in
     absurd (omega (arith, some, none))
 
 pub returns-clause-only : goal.returns-clause-only
-returns-clause-only c = λ words is. (c.in-Ok.ensures.only words c.args.request.now [] is (sym (append-nil c.args.request.now))).0
+returns-clause-only c = λ words is. (c.in-Ok.ensures.only words c.args.bytes.now [] is (sym (append-nil c.args.bytes.now))).0
