@@ -227,8 +227,8 @@ void node_settle(node *it) {
 
 void node_tick(node *it) {
     uint64_t limit = the_proxy.settings.timeout * MILLISECOND;
-    bool owes =
-        it->state == NODE_OPENING || it->state == NODE_LOGIN || (it->state == NODE_OPEN && it->count > 0);
+    bool owes = it->state == NODE_OPENING || it->state == NODE_LOGIN ||
+                (it->state == NODE_OPEN && it->count > 0 && !it->is_new);
     if (it->is_private && it->state == NODE_OPEN && it->client != NULL &&
         (it->count > 0 || it->client->is_subscribed)) {
         private_tick(it);

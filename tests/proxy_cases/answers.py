@@ -8,7 +8,7 @@ import threading
 import time
 
 from outside import figures, raw, rest_of
-from shared import Client, FAKE, Move, OTHER, PORT, PROGRAM, is_open, others, proxy, request, set_password, slot_of, until
+from shared import Client, FAKE, Move, OTHER, PORT, PROGRAM, is_open, others, proxy, request, said, set_password, slot_of, until
 
 
 def try_own():
@@ -86,6 +86,18 @@ def try_figures():
     found = {it: after[it] - before[it] for it in ("commands_total", "split_commands_total", "error_replies_total", "own_errors_total", "seconds_count")}
     print(found, {it: value for it, value in after.items() if value and "bucket" not in it})
     return [*found.values()] == [4, 1, 1, 1, 4] and b"split_commands:%d" % after["split_commands_total"] in client.ask("INFO")
+
+
+def try_idle():
+    """Nodes that nobody has asked for longer than --timeout are asked anew. None is taken for a silent one."""
+    with proxy(OTHER, PORT, "--timeout", "1000") as (_, _, report):
+        Client(OTHER).ask("SCRIPT", "LOAD", "return 1")  # connects to each node
+        time.sleep(1.5)
+        Client(PORT).ask("CLIENT", "KILL", "TYPE", "normal")  # so the map is read from the next one
+        time.sleep(1.5)
+        text = said(report)
+    print(text)
+    return "silent" not in text
 
 
 def try_take():
