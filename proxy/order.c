@@ -77,11 +77,25 @@ static later later_of(place at, uint16_t slot) {
     return it;
 }
 
+/* The node that a part waits for, if that cannot be reached and the time to try is up. Else NULL. */
+static node *out_of_reach(place at) {
+    const worker *worker = at.request->client->worker;
+    if (worker->now - at.request->start < the_proxy.settings.retry * MILLISECOND)
+        return NULL;
+    node *to = part_node(at.request, at.part);
+    return to != NULL && to->is_failing ? to : NULL;
+}
+
 /* Does what is to be done with the first part of a slot that is open. Returns whether it is done now. */
 static bool step(client *client, uint16_t slot) {
     place first = first_open(client, slot);
     if (first.request == NULL || part_at(first)->state == PART_SENT)
         return false;
+    const node *lost = out_of_reach(first);
+    if (lost != NULL) {
+        part_fail_at(first.request, first.part, lost, false);
+        return true;
+    }
     if (part_at(first)->state == PART_HELD) {
         send_again(first);
         return false;

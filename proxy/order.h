@@ -16,7 +16,7 @@ void slot_advance(client *client, uint16_t slot);
 /* Does so for all slots of a client, and gives up what took too long. */
 void client_advance(client *client);
 
-/* Whether a part that had no effect may be tried again: its time is not up. */
+/* Whether a part that a node refused may be tried again: its time is not up. */
 bool part_may_try(const request *request, uint32_t part);
 
 /* Reads an error that a node sent for a part. If it redirects, the part is held to be sent again, or fails

@@ -13,20 +13,25 @@
 
 static const char asking[] = "*1\r\n$6\r\nASKING\r\n";
 
-void part_send(request *it, uint32_t at) {
-    part *part = &it->part[at];
+node *part_node(const request *it, uint32_t at) {
+    const part *part = &it->part[at];
     worker *worker = it->client->worker;
     node *to = part->to != NULL        ? part->to
                : part->slot == NO_SLOT ? topology_any(worker)
                                        : topology_owner(worker, part->slot);
+    return to != NULL && it->is_private ? private_node(it->client, to) : to;
+}
+
+void part_send(request *it, uint32_t at) {
+    part *part = &it->part[at];
+    worker *worker = it->client->worker;
+    node *to = part_node(it, at);
     if (to == NULL) {
         topology_want(worker);
         part->due = worker->now + LONGER_PAUSE;
         part_hold(it, at, PART_AGAIN);
         return;
     }
-    if (it->is_private)
-        to = private_node(it->client, to);
     if (part->asking)
         node_ask(to, asking, sizeof asking - 1, (waiter){.waits = WAITS_NOTHING});
     part->state = PART_SENT;
@@ -99,6 +104,14 @@ void part_fail(request *it, uint32_t at, const char *text) {
     buffer_free(&error);
 }
 
+void part_fail_at(request *it, uint32_t at, const node *node, bool was_sent) {
+    char text[HOST_ROOM + 256];
+    snprintf(text, sizeof text, "ERR node %s:%u: %s; %s %s", node->host, node->port, node->why,
+             it->parts > 1 ? "its part of the command" : "the command",
+             was_sent ? "may have taken effect" : "did not take effect");
+    part_fail(it, at, text);
+}
+
 /* A part of a request that belongs to nobody is done. */
 static void drop(request *it, uint32_t at) {
     it->part[at].state = PART_DONE;
@@ -128,15 +141,14 @@ void part_reply(request *it, uint32_t at, node *from, const uint8_t *reply, size
 void part_lost(request *it, uint32_t at, node *lost_at, bool was_sent) {
     client *client = it->client;
     part *part = &it->part[at];
-    char text[HOST_ROOM + 256];
+    uint16_t slot = part->slot;
     it->in_flight--;
     if (client == NULL) {
         drop(it, at);
         return;
     }
     worker *worker = client->worker;
-    bool is_again = !was_sent && it->policy == 0 && part_may_try(it, at);
-    if (is_again) {
+    if (!was_sent && it->policy == 0) {
         part->to = NULL;
         part->asking = false;
         part->due = worker->now + LONGER_PAUSE;
@@ -145,11 +157,7 @@ void part_lost(request *it, uint32_t at, node *lost_at, bool was_sent) {
     }
     if (was_sent)
         figure_add(&worker->stats.counts[COUNT_UNKNOWN_END], 1);
-    snprintf(text, sizeof text, "ERR node %s:%u: %s; %s %s", lost_at->host, lost_at->port, lost_at->why,
-             it->parts > 1 ? "its part of the command" : "the command",
-             was_sent ? "may have taken effect" : "did not take effect");
-    uint16_t slot = part->slot;
-    part_fail(it, at, text);
+    part_fail_at(it, at, lost_at, was_sent);
     if (client->held > 0)
         slot_advance(client, slot);
 }

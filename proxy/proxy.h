@@ -42,7 +42,7 @@ typedef struct part {
     size_t start, end; /* its bytes in `sent` of its request */
     node *to;          /* where it goes, or NULL for the node of its slot */
     uint64_t due;      /* when it may be sent again */
-    uint64_t since;    /* when it had no effect for the first time, or 0 */
+    uint64_t since;    /* when a node refused it for the first time, or 0 */
     uint8_t *reply;    /* NULL for a reply in `small` */
     size_t reply_len;
     uint16_t slot, redirects;

@@ -23,6 +23,9 @@ void request_refuse(client *client, const char *text);
 void part_reply(request *request, uint32_t part, node *from, const uint8_t *reply, size_t len);
 void part_lost(request *request, uint32_t part, node *at, bool was_sent);
 
+/* Where a part goes, or NULL if no node is known. */
+node *part_node(const request *request, uint32_t part);
+
 /* Sends a part to its node. */
 void part_send(request *request, uint32_t part);
 
@@ -32,6 +35,9 @@ void part_keep(part *part, const uint8_t *reply, size_t len);
 /* A part is done, with this reply. May free the request. */
 void part_finish(request *request, uint32_t part, const uint8_t *reply, size_t len);
 void part_fail(request *request, uint32_t part, const char *text);
+
+/* A part is done with an error that names a node. `was_sent`: the node may have read some of it. */
+void part_fail_at(request *request, uint32_t part, const node *node, bool was_sent);
 
 /* Writes the replies to the requests that are complete, in their order. */
 void requests_answer(client *client);

@@ -81,7 +81,15 @@ static void add_all(topology *map, node **nodes, size_t count) {
     }
 }
 
-/* Takes the owners of slots. What has another owner now goes slowly for a while. */
+/* A slot has another owner now. It goes slowly for a while, and does not wait for a connection to the old one. */
+static void change_owner(worker *worker, uint16_t slot) {
+    node *old = topology_owner(worker, slot);
+    topology_slows(worker, slot);
+    if (old != NULL && (old->state == NODE_OPENING || old->state == NODE_LOGIN))
+        node_doom(old, "another node has its slots");
+}
+
+/* Takes the owners of slots. */
 static void take_owners(worker *worker, const uint16_t *numbers, node **nodes, size_t count) {
     topology *map = &worker->map;
     map->slots = 0;
@@ -90,7 +98,7 @@ static void take_owners(worker *worker, const uint16_t *numbers, node **nodes, s
         uint16_t number = owner != NULL ? owner->number : (uint16_t)SLOTROUTE_NO_NODE;
         map->slots += owner != NULL;
         if (number != map->owner[slot] && map->has_map)
-            topology_slows(worker, (uint16_t)slot);
+            change_owner(worker, (uint16_t)slot);
         map->owner[slot] = number;
     }
 }

@@ -223,3 +223,37 @@ def try_bad_node():
         node.shutdown()
     print(dict(found))
     return found.keys() == {"right", "error"} and sum(found.values()) == 20000
+
+
+class HalfMap(socketserver.StreamRequestHandler):
+    """A node that has the second half of the slots, and says which port has the first half."""
+
+    port = FAKE
+
+    def handle(self):
+        with suppress(OSError):
+            while line := self.rfile.readline():
+                words = [(self.rfile.readline(), self.rfile.readline())[1] for _ in range(int(line[1:]))]
+                halves = [(0, 8191, HalfMap.port), (8192, 16383, FAKE)]
+                slots = b"".join(b"*3\r\n:%d\r\n:%d\r\n*2\r\n$9\r\n127.0.0.1\r\n:%d\r\n" % it for it in halves)
+                self.wfile.write(b"*2\r\n" + slots if words[0] == b"CLUSTER\r\n" else b"+OK\r\n")
+
+
+def try_unreachable():
+    """A node does not take connections: its commands get errors in time. Once the map says that another node has
+    its slots, they go there at once."""
+    socketserver.ThreadingTCPServer.allow_reuse_address = socketserver.ThreadingTCPServer.daemon_threads = True
+    with socketserver.ThreadingTCPServer(("127.0.0.1", FAKE), HalfMap) as node, socket.create_server(("127.0.0.1", 0), backlog=0) as full:
+        HalfMap.port = full.getsockname()[1]
+        threading.Thread(target=node.serve_forever).start()
+        with socket.create_connection(full.getsockname()), proxy(OTHER, FAKE, "--timeout", "3000", "--retry", "1000"):  # it is full
+            client, start = Client(OTHER), time.monotonic()
+            errors = client.ask_all([["SET", "bar", str(it)] for it in range(8)])
+            took = time.monotonic() - start
+            client.socket.sendall(request("SET", "bar", "1"))
+            time.sleep(0.3)
+            HalfMap.port, start = FAKE, time.monotonic()
+            moved = client.reply(), time.monotonic() - start
+        node.shutdown()
+    print(f"{set(errors)} after {took:.1f} s; {moved[0]} {moved[1]:.1f} s after the map has changed")
+    return all("did not take effect" in it for it in errors) and took < 5 and moved[0] == "+OK" and moved[1] < 2
