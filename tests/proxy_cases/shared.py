@@ -29,16 +29,20 @@ IS_CHECKED = PROGRAM.endswith(".checked")  # it takes more memory and time
 MOVED_SLOT = "12182"  # that of foo
 
 
+class LeftOut(Exception):
+    """Why a test can not be run on this machine."""
+
+
 def cluster(*words):
     run = subprocess.run([f"{ROOT}/examples/cluster", *words], check=True, capture_output=True, text=True)
     return run.stdout
 
 
 @contextmanager
-def proxy(port, node, *options):
+def proxy(port, node, *options, host="127.0.0.1"):
     """Starts the proxy. Gives its process, an empty line and the file of its log."""
     options = ["--node-password" if it == "--password" else it for it in options]
-    words = [PROGRAM, "--listen", f"127.0.0.1:{port}", "--node", f"127.0.0.1:{node}", *options]
+    words = [PROGRAM, "--listen", f"127.0.0.1:{port}", "--node", f"{host}:{node}", *options]
     with tempfile.TemporaryFile("w+") as report:
         process = subprocess.Popen(words, stderr=report)
         try:
@@ -65,8 +69,8 @@ def said(report):
 
 
 class Client:
-    def __init__(self, port=PROXY):
-        self.socket = socket.create_connection(("127.0.0.1", port), timeout=60)
+    def __init__(self, port=PROXY, host="127.0.0.1"):
+        self.socket = socket.create_connection((host, port), timeout=60)
         self.lines = self.socket.makefile("rb")
 
     def ask(self, *words):
@@ -125,14 +129,14 @@ def until(seconds, does):
 
 
 @contextmanager
-def others(count, key):
+def others(count, key, port=PROXY):
     """Clients that set and read a key of their own each, which starts with `key`, all the while.
     Gives how often a client read what it had set ("right"), how often it got an error and else what
     it had set before ("lost"), what else was seen, and the longest that a client waited ("longest")."""
     over, seen = threading.Event(), Counter()
 
     def use(number):
-        client, at = Client(), 0
+        client, at = Client(port), 0
         while not over.is_set():
             at, start = at + 1, time.monotonic()
             own, mine = f"{key}{number}", f"{number}."

@@ -19,10 +19,11 @@ class User(threading.Thread):
     """A client that knows what its keys have to hold. A value is a set of what it may be."""
 
     def __init__(self, number, count, port=PROXY, tags=5):
-        super().__init__()
+        super().__init__(daemon=True)
         self.rng, self.left, self.port, self.seen, self.wrong = random.Random(number), count, port, Counter(), []
         self.keys = [f"{{m{tag}}}{number}.{at}" for tag in range(tags) for at in range(4)] + [f"k{number}.{at}" for at in range(8)]
         self.holds = {key: {None} for key in self.keys}
+        self.longest = 0  # seconds that it waited for what it had sent at once
 
     def command(self):
         key, value = self.rng.choice(self.keys), str(self.rng.randrange(10**6))
@@ -79,22 +80,30 @@ class User(threading.Thread):
             self.holds[keys[0]] = {b"%d" % reply}
         self.seen["right"] += 1
 
-    def run(self):
+    def work(self):
         client = Client(self.port)
         while self.left > 0:
             some = [self.command() for _ in range(self.rng.choice([1, 1, 4, 16]))]
             self.left -= len(some)
-            sent = [self.commands_of(words) for words in some]
+            sent, start = [self.commands_of(words) for words in some], time.monotonic()
             replies = iter(client.ask_all(it for commands in sent for it in commands))
+            self.longest = max(self.longest, time.monotonic() - start)
             for words, commands in zip(some, sent):
                 self.check(words, [next(replies) for _ in commands][-1])
+        self.check(["MGET", *self.keys], client.ask("MGET", *self.keys))
         client.socket.close()
+
+    def run(self):
+        try:
+            self.work()
+        except Exception as fault:  # as that no reply came within a minute
+            self.wrong.append(fault)
 
 
 def use(users, meanwhile):
     """Runs the users, and `meanwhile` beside them until they end. Gives what they saw."""
     over = threading.Event()
-    beside = threading.Thread(target=meanwhile, args=(over,))
+    beside = threading.Thread(target=meanwhile, args=(over,), daemon=True)
     start = time.monotonic()
     for it in (*users, beside):
         it.start()
