@@ -20,7 +20,7 @@ void *memory_take_raw(size_t size); /* of any bytes */
 void memory_give(void *block, size_t size);
 
 static inline size_t buffer_len(const buffer *it) { return it->end - it->start; }
-static inline uint8_t *buffer_at(const buffer *it) { return it->bytes + it->start; }
+static inline uint8_t *buffer_at(const buffer *it) { return it->bytes == NULL ? NULL : it->bytes + it->start; }
 
 /* Where the next `least` bytes can be written. `end` is then raised by the caller. */
 uint8_t *buffer_room(buffer *it, size_t least);

@@ -382,19 +382,34 @@ static void step(script *it) {
     round_of(MILLISECOND);
 }
 
+static bool b_waits(void) { return answered < asked; }
+static bool has_clients(void) { return the_worker->clients != NULL; }
+
+/* Whether a node owes a reply, perhaps to a client that has gone. */
+static bool nodes_owe(void) {
+    for (size_t at = 0; at < the_worker->node_count; at++)
+        if (the_worker->nodes[at]->count > 0)
+            return true;
+    return the_worker->left != NULL;
+}
+
+static void pass_time_while(bool (*holds)(void), const char *what) {
+    uint64_t until = now + LONGEST;
+    while (holds() && now < until)
+        round_of(20 * MILLISECOND);
+    must(!holds(), what);
+}
+
 /* Time passes until B has its replies. Then the clients go, or the proxy is drained. */
 static void finish(bool is_drained) {
-    uint64_t until = now + LONGEST;
-    while (answered < asked && now < until)
-        round_of(20 * MILLISECOND);
-    must(answered == asked, "B waits for ever");
+    pass_time_while(b_waits, "B waits for ever");
     close(client_a);
     close(client_b);
     client_a = client_b = NO_FD;
     atomic_store(&the_proxy.draining, is_drained);
-    while (the_worker->clients != NULL && now < until + LONGEST)
-        round_of(20 * MILLISECOND);
-    must(the_worker->clients == NULL, "a client that has gone is kept");
+    pass_time_while(has_clients, "a client that has gone is kept");
+    is_holding = false;
+    pass_time_while(nodes_owe, "a node owes a reply for ever");
     listeners_close(the_worker);
     worker_free(the_worker);
     while (connection_count > 0)
