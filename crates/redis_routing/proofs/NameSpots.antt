@@ -1,165 +1,65 @@
--- A set of names has those of its rows and of its tree, as the spots tell.
-use Rattle.std.proofs.Common.{◌≡◌, ◌≢◌, ◌<◌, ◌≤◌, ℕ, zero, suc, inl, inr, ◌⊎◌, List, [], ◌∷◌, ◌++◌, length, Bool, true, false, ◌||◌, eqb, Option, None, Some, Vec, Global, refl, sym, ap, ◌∙◌, arith, slice_get}
-use Rattle.std.specs.List.{list_any}
+-- Names in trees by their spots.
+use Rattle.std.proofs.Common.{◌≡◌, ◌≢◌, ℕ, zero, suc, List, [], ◌∷◌, ◌++◌, ◌||◌, nat_eq, Some, refl, sym, ap, ◌∙◌, arith, set, slice_get}
 use Rattle.std.specs.Str.{bytes_eq}
-use Rattle.std.specs.BTreeSet.{insert_key}
-use Rattle.std.proofs.lemmas.Map.Steps.{le-length_from_below}
 use Rattle.std.proofs.lemmas.List.Folds.{list_any-append}
 use Rattle.std.proofs.lemmas.Slice.Eq.{bytes_eq-Decides}
 use Rattle.std.proofs.lemmas.Grind.{common_steps}
 use Rattle.redis_routing.specs.ReadOnly.{is_among}
-use Rattle.redis_routing.specs.Inner.NameSpots.{bytes_of, spot_of, holder_of, holder_at, found, found_at, HaveSpots}
-use Rattle.redis_routing.specs.declared.read_only.Found.{Found}
-use Rattle.redis_routing.specs.declared.read_only.Found.TheVariants.{Free, Here, Other}
-use Rattle.redis_routing.specs.declared.read_only.TheConstants.{SPOTS}
-use Rattle.redis_routing.proofs.NameSets.{by_items, among-insert}
-use Rattle.resp_core.proofs.Cases.{by_test}
+use Rattle.redis_routing.specs.Inner.NameSpots.{Tree, spot_of, names_of, names_in, is_in, AreAtTheirSpots}
+use Rattle.resp_core.proofs.Cases.{by_test, or_swap}
 
-by_option : {P : Type 0} {X : Type 0} (o : Option X) → (o ≡ None → P) → ((x : X) → o ≡ Some x → P) → P
-by_option None none some = none refl
-by_option (Some x) none some = some x refl
+-- an empty tree more changes nothing
 
-or_first : (a b : Bool) → a ≡ true → (a || b) ≡ true
-or_first true b h = refl
-or_first false b h = cc
+pub names_in-push : (trees : List Tree) (tree : Tree) → tree.keys ≡ [] → names_in (trees ++ tree ∷ []) ≡ names_in trees
+names_in-push [] tree empty = rw empty refl
+names_in-push (t ∷ trees) tree empty = ap (λ names. names_of t ++ names) (names_in-push trees tree empty)
 
-or_rest : (a b : Bool) → (a || b) ≡ true → a ≡ false → b ≡ true
-or_rest true b h f = cc
-or_rest false b h f = h
+pub is_in-push : (q : List ℕ) (trees : List Tree) (tree : Tree) (at : ℕ) → tree.keys ≡ [] → is_in q (slice_get (trees ++ tree ∷ []) at) ≡ is_in q (slice_get trees at)
+is_in-push q [] tree zero empty = rw empty refl
+is_in-push q [] tree (suc at) empty = refl
+is_in-push q (t ∷ trees) tree zero empty = refl
+is_in-push q (t ∷ trees) tree (suc at) empty = is_in-push q trees tree at empty
 
-or_neither : (a b : Bool) → a ≡ false → (a || b) ≡ b
-or_neither true b h = cc
-or_neither false b h = refl
+-- the tree at a spot has a name more
 
--- of rows and their names
+-- the other tree has the names of the first and one more
+abbrev pub IsOneMore : List ℕ → Tree → Tree → Type 0
+IsOneMore name tree after = (q : List ℕ) → is_among (names_of after) q ≡ (bytes_eq q name || is_among (names_of tree) q)
 
-row_among : (rows : List (Vec ℕ Global)) (row : ℕ) (own : Vec ℕ Global) (q : List ℕ) → slice_get rows row ≡ Some own → own.items ≡ q → is_among (bytes_of rows) q ≡ true
-row_among [] row own q got same = cc
-row_among (n ∷ rows) zero own q got same = grind (arith, zero, or_first, bytes_eq-Decides)
-row_among (n ∷ rows) (suc row) own q got same = grind (arith, common_steps, row_among rows row own q got same)
+pub among-set : (name : List ℕ) (trees : List Tree) (at : ℕ) (tree after : Tree) → slice_get trees at ≡ Some tree → IsOneMore name tree after → (q : List ℕ) → is_among (names_in (set trees at after)) q ≡ (bytes_eq q name || is_among (names_in trees) q)
+among-set name [] at tree after there more q = cc
+among-set name (t ∷ trees) zero tree after there more q = grind (arith, common_steps, list_any-append, more q)
+among-set name (t ∷ trees) (suc at) tree after there more q =
+    list_any-append (bytes_eq q) (names_of t) (names_in (set trees at after))
+    ∙ ap (λ b. is_among (names_of t) q || b) (among-set name trees at tree after there more q)
+    ∙ or_swap (is_among (names_of t) q) (bytes_eq q name) (is_among (names_in trees) q)
+    ∙ ap (λ b. bytes_eq q name || b) (sym (list_any-append (bytes_eq q) (names_of t) (names_in trees)))
 
-among_row : (rows : List (Vec ℕ Global)) (q : List ℕ) → is_among (bytes_of rows) q ≡ true → (row : ℕ) × (own : Vec ℕ Global) × (slice_get rows row ≡ Some own) × (own.items ≡ q)
-among_row [] q h = cc
-among_row (n ∷ rows) q h = by_test (bytes_eq q n.items)
-    (λ t. (0, n, refl, sym ((bytes_eq-Decides q n.items).0 t)))
-    (λ t. let (row, own, got, same) = among_row rows q (or_rest (bytes_eq q n.items) (is_among (bytes_of rows) q) h t) in (suc row, own, got, same))
+get_set : (trees : List Tree) (at : ℕ) (tree after : Tree) → slice_get trees at ≡ Some tree → slice_get (set trees at after) at ≡ Some after
+get_set [] at tree after there = cc
+get_set (t ∷ trees) zero tree after there = refl
+get_set (t ∷ trees) (suc at) tree after there = get_set trees at tree after there
 
-got_still : (rows : List (Vec ℕ Global)) (name own : Vec ℕ Global) (row : ℕ) → slice_get rows row ≡ Some own → slice_get (rows ++ name ∷ []) row ≡ Some own
-got_still [] name own row h = cc
-got_still (n ∷ rows) name own zero h = h
-got_still (n ∷ rows) name own (suc row) h = got_still rows name own row h
+get_set_other : (trees : List Tree) (at other : ℕ) (after : Tree) → other ≢ at → slice_get (set trees at after) other ≡ slice_get trees other
+get_set_other [] at other after apart = refl
+get_set_other (t ∷ trees) zero zero after apart = absurd (apart refl)
+get_set_other (t ∷ trees) zero (suc other) after apart = refl
+get_set_other (t ∷ trees) (suc at) zero after apart = refl
+get_set_other (t ∷ trees) (suc at) (suc other) after apart = get_set_other trees at other after (λ e. apart (ap suc e))
 
-some_within : (rows : List (Vec ℕ Global)) (row : ℕ) → row < length rows → slice_get rows row ≢ None
-some_within [] row h none = absurd (omega arith)
-some_within (n ∷ rows) zero h none = cc
-some_within (n ∷ rows) (suc row) h none = some_within rows row (omega arith) none
+pub set_same : (trees : List Tree) (at : ℕ) (tree after : Tree) → slice_get trees at ≡ Some tree → after.keys ≡ tree.keys → set trees at after ≡ trees
+set_same [] at tree after there keys = refl
+set_same (t ∷ trees) zero tree after there keys = let same : after ≡ tree = λ i. record { keys = keys i } in cc
+set_same (t ∷ trees) (suc at) tree after there keys = ap (λ rest. t ∷ rest) (set_same trees at tree after there keys)
 
-got_last : (rows : List (Vec ℕ Global)) (name own : Vec ℕ Global) (row : ℕ) → slice_get (rows ++ name ∷ []) row ≡ Some own → (slice_get rows row ≡ Some own) ⊎ ((row ≡ length rows) × (own ≡ name))
-got_last [] name own zero h = inr (refl, cc)
-got_last [] name own (suc row) h = cc
-got_last (n ∷ rows) name own zero h = inl h
-got_last (n ∷ rows) name own (suc row) h = grind (arith, common_steps, got_last rows name own row h)
+pub at_their_spots-reached : (trees reached : List Tree) → AreAtTheirSpots trees → names_in reached ≡ names_in trees → ((q : List ℕ) (at : ℕ) → is_in q (slice_get reached at) ≡ is_in q (slice_get trees at)) → AreAtTheirSpots reached
+at_their_spots-reached trees reached found names spots = record { each = λ q. ap (λ n. is_among n q) names ∙ found.each q ∙ sym (spots q (spot_of q)) }
 
--- of what a spot tells
-
-pub spot_within : (name : List ℕ) → spot_of name < SPOTS
-unfolding spot_of
-spot_within name = omega arith
-
-found_free : (name : List ℕ) (own : Option (Vec ℕ Global)) → found name own ≡ Free → own ≡ None
-found_free name None h = refl
-found_free name (Some own) h = grind (arith, common_steps)
-
-found_here : (name : List ℕ) (own : Option (Vec ℕ Global)) → found name own ≡ Here → (one : Vec ℕ Global) × (own ≡ Some one) × (one.items ≡ name)
-found_here name None h = cc
-found_here name (Some own) h = by_test (bytes_eq own.items name)
-    (λ t. (own, refl, (bytes_eq-Decides own.items name).0 t))
-    (λ t. let no : Other ≡ Here = sym (rw t refl) ∙ h in cc)
-
-is_here : (name : List ℕ) (own : Vec ℕ Global) → own.items ≡ name → found name (Some own) ≡ Here
-is_here name own same = rw ((bytes_eq-Decides own.items name).1 same) refl
-
-own_told : (rows : List (Vec ℕ Global)) (spot : Option ℕ) → holder_of rows spot ≢ None → (row : ℕ) × (own : Vec ℕ Global) × (spot ≡ Some row) × (slice_get rows row ≡ Some own)
-own_told rows None h = absurd (h refl)
-own_told rows (Some row) h = by_option (slice_get rows row)
-    (λ none. absurd (h none))
-    (λ own got. (row, own, refl, got))
-
-own_row : (rows : List (Vec ℕ Global)) (spots : List ℕ) (q : List ℕ) (row : ℕ) (own : Vec ℕ Global) → slice_get spots (spot_of q) ≡ Some row → slice_get rows row ≡ Some own → holder_at rows spots q ≡ Some own
-own_row rows spots q row own told got = ap (holder_of rows) told ∙ got
-
--- what a look-up says of the names
-
-pub said : (rows rows' : List (Vec ℕ Global)) (spots spots' : List ℕ) (q q' : List ℕ) (f g : Found) → rows' ≡ rows → spots' ≡ spots → q' ≡ q → f ≡ found_at rows' spots' q' → f ≡ g → found_at rows spots q ≡ g
-said rows rows' spots spots' q q' f g of_rows of_spots of_name is same = grind (arith, common_steps)
-
-not_in_rows : (rows : List (Vec ℕ Global)) (spots : List ℕ) (crowded : List (Vec ℕ Global)) → HaveSpots rows spots crowded → (q : List ℕ) → found_at rows spots q ≢ Here → is_among (bytes_of rows) q ≡ false
-not_in_rows rows spots crowded have q h = grind (arith, by_test, among_row, slice_get, own_row, is_here)
-
-here_told : (rows : List (Vec ℕ Global)) (q : List ℕ) (spot : Option ℕ) → found q (holder_of rows spot) ≡ Here → is_among (bytes_of rows) q ≡ true
-here_told rows q None h = cc
-here_told rows q (Some row) h = grind (arith, found_here, slice_get, row_among)
-
-pub here_among : (rows : List (Vec ℕ Global)) (spots : List ℕ) (crowded : List (Vec ℕ Global)) (q : List ℕ) → found_at rows spots q ≡ Here → is_among (bytes_of rows ++ bytes_of crowded) q ≡ true
-here_among rows spots crowded q h = grind (arith, list_any-append, or_first, here_told, slice_get)
-
-pub other_among : (rows : List (Vec ℕ Global)) (spots : List ℕ) (crowded : List (Vec ℕ Global)) → HaveSpots rows spots crowded → (q : List ℕ) → found_at rows spots q ≢ Here → is_among (bytes_of rows ++ bytes_of crowded) q ≡ is_among (bytes_of crowded) q
-other_among rows spots crowded have q h =
-    list_any-append (bytes_eq q) (bytes_of rows) (bytes_of crowded) ∙ or_neither (is_among (bytes_of rows) q) (is_among (bytes_of crowded) q) (not_in_rows rows spots crowded have q h)
-
-pub free_among : (rows : List (Vec ℕ Global)) (spots : List ℕ) (crowded : List (Vec ℕ Global)) → HaveSpots rows spots crowded → (q : List ℕ) → found_at rows spots q ≡ Free → is_among (bytes_of rows ++ bytes_of crowded) q ≡ false
-free_among rows spots crowded have q h = grind (arith, other_among, by_test, found_free)
-
--- each row is told by a spot, so there are no more than spots
-number_told : (spots : List ℕ) (spot row : ℕ) → slice_get spots spot ≡ Some row → list_any (eqb row) spots ≡ true
-number_told [] spot row h = cc
-number_told (n ∷ spots) zero row h = grind (arith, common_steps)
-number_told (n ∷ spots) (suc spot) row h = grind (arith, common_steps, number_told spots spot row h)
-
-pub few_rows : (rows : List (Vec ℕ Global)) (spots : List ℕ) (crowded : List (Vec ℕ Global)) → HaveSpots rows spots crowded → length rows ≤ SPOTS
-few_rows rows spots crowded have =
-    let few = have.few in
-    let told = le-length_from_below spots (length rows) (λ row inside. by_option (slice_get rows row)
-    (λ none. absurd (some_within rows row inside none))
-    (λ own got. number_told spots (spot_of own.items) row (have.each row own got))) in
-    omega (arith, few, told)
-
--- of a name more
-
-pub known_among : (names : List (List ℕ)) (items name : List ℕ) → is_among names items ≡ true → items ≡ name → (q : List ℕ) → is_among names q ≡ (bytes_eq q name || is_among names q)
-known_among names items name known spelt q = grind (arith, by_test, bytes_eq-Decides)
-
-pub crowded_among : (rows crowded after : List (Vec ℕ Global)) (k : Vec ℕ Global) (name : List ℕ) → after ≡ insert_key by_items crowded k → k.items ≡ name → (q : List ℕ) → is_among (bytes_of rows ++ bytes_of after) q ≡ (bytes_eq q name || is_among (bytes_of rows ++ bytes_of crowded) q)
-crowded_among [] crowded after k name keys items q = among-insert q name k crowded after keys items
-crowded_among (n ∷ rows) crowded after k name keys items q = grind (arith, common_steps, crowded_among rows crowded after k name keys items q)
-
--- what another name has is not the spot of a name that none has
-apart : (rows : List (Vec ℕ Global)) (spots : List ℕ) (name q : List ℕ) (row : ℕ) (own : Vec ℕ Global) → holder_at rows spots name ≡ None → slice_get spots (spot_of q) ≡ Some row → slice_get rows row ≡ Some own → spot_of q ≢ spot_of name
-apart rows spots name q row own none told got same = grind (arith, common_steps)
-
-pub have_pushed : (rows rows' : List (Vec ℕ Global)) (spots spots' : List ℕ) (crowded : List (Vec ℕ Global)) → HaveSpots rows spots crowded → (name : Vec ℕ Global) → found_at rows spots name.items ≡ Free → rows' ≡ rows ++ name ∷ [] → slice_get spots' (spot_of name.items) ≡ Some (length rows) → length spots' ≤ SPOTS
-    → ((spot row : ℕ) → spot < SPOTS → spot ≢ spot_of name.items → slice_get spots spot ≡ Some row → slice_get spots' spot ≡ Some row) → HaveSpots rows' spots' crowded
-have_pushed rows rows' spots spots' crowded have name free pushed noted few others =
-    let none = found_free name.items (holder_at rows spots name.items) free in
-    let kept = λ (q : List ℕ) (row : ℕ) (own : Vec ℕ Global) (told : slice_get spots (spot_of q) ≡ Some row) (got : slice_get rows row ≡ Some own). others (spot_of q) row (spot_within q) (apart rows spots name.items q row own none told got) told in
-    record {
-      few = few;
-      each = λ row own there. elim (got_last rows name own row (ap (λ z. slice_get z row) (sym pushed) ∙ there)) [
-        | inl before ↦ kept own.items row own (have.each row own before) before
-        | inr (at, same) ↦ ap (λ z. slice_get spots' (spot_of z.items)) same ∙ noted ∙ ap Some (sym at)
-      ];
-      taken = λ q there nobody.
-          let (row, own, told, got) = own_told rows (slice_get spots (spot_of q)) (have.taken q there) in
-          let still : holder_at rows' spots' q ≡ Some own = own_row rows' spots' q row own (kept q row own told got) (ap (λ z. slice_get z row) pushed ∙ got_still rows name own row got) in
-          let no : None ≡ Some own = sym nobody ∙ still in cc;
-    }
-
-pub have_crowded : (rows : List (Vec ℕ Global)) (spots : List ℕ) (crowded after : List (Vec ℕ Global)) → HaveSpots rows spots crowded → (name : Vec ℕ Global) → found_at rows spots name.items ≡ Other → after ≡ insert_key by_items crowded name → HaveSpots rows spots after
-have_crowded rows spots crowded after have name other keys = record {
-  few = have.few;
-  each = have.each;
-  taken = λ q there. by_test (bytes_eq q name.items)
-      (λ t. λ nobody. let at : holder_at rows spots name.items ≡ None = ap (holder_at rows spots) (sym ((bytes_eq-Decides q name.items).0 t)) ∙ nobody in
-      let no : Free ≡ Other = sym (ap (found name.items) at) ∙ other in cc)
-      (λ t. have.taken q (or_rest (bytes_eq q name.items) (is_among (bytes_of crowded) q) (sym (among-insert q name.items name crowded after keys refl) ∙ there) t));
+pub at_their_spots-set : (name : List ℕ) (trees : List Tree) (at : ℕ) (tree after : Tree) → AreAtTheirSpots trees → at ≡ spot_of name → slice_get trees at ≡ Some tree → IsOneMore name tree after → AreAtTheirSpots (set trees at after)
+at_their_spots-set name trees at tree after found own there more = record {
+  each = λ q.
+      among-set name trees at tree after there more q ∙ ap (λ b. bytes_eq q name || b) (found.each q)
+      ∙ by_test (nat_eq (spot_of q) at)
+      (λ same. grind (arith, common_steps, get_set, more q))
+      (λ apart. grind (arith, common_steps, get_set_other, by_test, bytes_eq-Decides));
 }

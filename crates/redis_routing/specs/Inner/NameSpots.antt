@@ -1,43 +1,32 @@
--- Where a set looks for a name: in the row that its spot tells, and where another name has that, in a tree.
-use Rattle.std.specs.Prelude.{◌≡◌, ◌≢◌, ◌≤◌, ◌%◌, ℕ, true, List, length, map, Option, Some, None, slice_get, cond, Vec}
-use Rattle.std.specs.Str.{bytes_eq}
+-- Where a set looks for a name: in the tree at its spot.
+use Rattle.std.specs.Prelude.{◌≡◌, ◌%◌, ◌++◌, ℕ, Bool, false, List, [], ◌∷◌, map, Option, Some, None, slice_get, Vec}
+use Rattle.std.specs.BTreeSet.{BTreeSet}
 use Rattle.std.specs.Global.{Global}
 use Rattle.redis_routing.specs.Places.{name_hash}
 use Rattle.redis_routing.specs.ReadOnly.{is_among}
-use Rattle.redis_routing.specs.declared.read_only.Found.{Found}
-use Rattle.redis_routing.specs.declared.read_only.Found.TheVariants.{Free, Here, Other}
 use Rattle.redis_routing.specs.declared.read_only.TheConstants.{SPOTS}
 
--- the names as their bytes
-abbrev pub bytes_of : List (Vec ℕ Global) → List (List ℕ)
-bytes_of rows = map (λ name. name.items) rows
+abbrev pub Tree : Type 0
+Tree = BTreeSet (Vec ℕ Global)
 
 -- the spot of a name
 unfoldable pub spot_of : List ℕ → ℕ
 spot_of name = name_hash name % SPOTS
 
--- the name in the row that a spot tells
-abbrev pub holder_of : List (Vec ℕ Global) → Option ℕ → Option (Vec ℕ Global)
-holder_of rows None = None
-holder_of rows (Some row) = slice_get rows row
+-- the names of a tree, as their bytes
+abbrev pub names_of : Tree → List (List ℕ)
+names_of tree = map (λ name. name.items) tree.keys
 
--- the name that has the spot of a name
-abbrev pub holder_at : List (Vec ℕ Global) → List ℕ → List ℕ → Option (Vec ℕ Global)
-holder_at rows spots name = holder_of rows (slice_get spots (spot_of name))
+-- the names of trees
+abbrev pub names_in : List Tree → List (List ℕ)
+names_in [] = []
+names_in (tree ∷ trees) = names_of tree ++ names_in trees
 
--- what the name that has its spot says of a name
-abbrev pub found : List ℕ → Option (Vec ℕ Global) → Found
-found name None = Free
-found name (Some own) = cond (bytes_eq own.items name) Here Other
+-- whether a tree that is there has the name
+abbrev pub is_in : List ℕ → Option Tree → Bool
+is_in name None = false
+is_in name (Some tree) = is_among (names_of tree) name
 
--- what its spot says of a name
-abbrev pub found_at : List (Vec ℕ Global) → List ℕ → List ℕ → Found
-found_at rows spots name = found name (holder_at rows spots name)
-
--- the spots are no more than so many, the name of each row has its spot, and some name has the spot of each name in the
--- tree
-pub record HaveSpots (rows : List (Vec ℕ Global)) (spots : List ℕ) (crowded : List (Vec ℕ Global)) : Type 0 where
-  pub few : length spots ≤ SPOTS
-  pub each : (row : ℕ) (name : Vec ℕ Global) → slice_get rows row ≡ Some name
-      → slice_get spots (spot_of name.items) ≡ Some row
-  pub taken : (name : List ℕ) → is_among (bytes_of crowded) name ≡ true → holder_at rows spots name ≢ None
+-- each name of the trees is in the one at its spot
+pub record AreAtTheirSpots (trees : List Tree) : Type 0 where
+  pub each : (name : List ℕ) → is_among (names_in trees) name ≡ is_in name (slice_get trees (spot_of name))

@@ -3,6 +3,6 @@ use Rattle.redis_routing.specs.Inner.NameSpots.{spot_of}
 use Rattle.redis_routing.specs.declared.read_only.TheConstants.{SPOTS}
 use Rattle.redis_routing.proofs.read_only.spot_of.Goals as goal
 
-pub returns-clause-spot : goal.returns-clause-spot
+pub returns : goal.returns
 unfolding spot_of
-returns-clause-spot c = ap (λ hash. hash % SPOTS) c.name_hash.ensures
+returns c = ap (λ hash. hash % SPOTS) c.name_hash.ensures

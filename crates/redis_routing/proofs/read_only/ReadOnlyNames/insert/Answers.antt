@@ -1,27 +1,39 @@
-use Rattle.redis_routing.proofs.NameSpots.{said, few_rows, here_among, known_among, crowded_among, have_pushed, have_crowded}
+use Rattle.std.proofs.Common.{◌≡◌, ◌∙◌, ◌||◌, refl, ap, rules, Some, slice_get, set}
+use Rattle.std.specs.Str.{bytes_eq}
+use Rattle.std.proofs.lemmas.Option.{slice_get_read}
+use Rattle.redis_routing.specs.ReadOnly.{is_among}
+use Rattle.redis_routing.specs.Upper.{upper}
+use Rattle.redis_routing.specs.Inner.NameSpots.{spot_of, names_in}
+use Rattle.redis_routing.proofs.NameSets.{among-insert}
+use Rattle.redis_routing.proofs.NameSpots.{among-set, set_same, at_their_spots-reached, at_their_spots-set}
 use Rattle.redis_routing.proofs.read_only.ReadOnlyNames.insert.Goals as goal
 
-pub push_row-requires : goal.push_row-requires
-push_row-requires c = few_rows _ _ _ c.self.invariant
+pub invariant_of-self-in_err-insert : goal.invariant_of-self-in_err-insert
+invariant_of-self-in_err-insert c =
+    let there : slice_get c.reach.new.trees.items c.spot_of-spot.result ≡ Some c.index_mut.result.now = slice_get_read _ _ _ _ refl c.in_ok-reach.ensures.reached c.index_mut.ensures.value in
+    rw (set_same c.reach.new.trees.items c.spot_of-spot.result c.index_mut.result.now c.insert.new.self there c.in_err-insert.ensures.err)
+    (at_their_spots-reached _ _ c.self.invariant c.in_ok-reach.ensures.names c.in_ok-reach.ensures.spots)
 
-pub invariant_of-self : goal.invariant_of-self
-invariant_of-self c =
-    let free = said _ _ _ _ _ _ _ _ c.deref.ensures.value c.deref-2.ensures.value c.deref-3.ensures.value c.find_spot.ensures c.in-Free.is in
-    let pushed = c.in_ok-push_row-in-Free.ensures in
-    have_pushed _ _ _ _ _ c.self.invariant _ free pushed.pushed pushed.noted pushed.few pushed.others
+pub returns-in_err-insert-clause-unchanged : goal.returns-in_err-insert-clause-unchanged
+returns-in_err-insert-clause-unchanged c =
+    let there : slice_get c.reach.new.trees.items c.spot_of-spot.result ≡ Some c.index_mut.result.now = slice_get_read _ _ _ _ refl c.in_ok-reach.ensures.reached c.index_mut.ensures.value in
+    let same : names_in (set c.reach.new.trees.items c.spot_of-spot.result c.insert.new.self) ≡ c.args.self.now =
+    ap names_in (set_same c.reach.new.trees.items c.spot_of-spot.result c.index_mut.result.now c.insert.new.self there c.in_err-insert.ensures.err) ∙ c.in_ok-reach.ensures.names ∙ c.self.view_is in
+    search rules
 
-pub invariant_of-self-in_ok-insert-in-Other : goal.invariant_of-self-in_ok-insert-in-Other
-invariant_of-self-in_ok-insert-in-Other c =
-    let other = said _ _ _ _ _ _ _ _ c.deref.ensures.value c.deref-2.ensures.value c.deref-3.ensures.value c.find_spot.ensures c.in-Other.is in
-    have_crowded _ _ _ _ c.self.invariant _ other c.in_ok-insert-in-Other.ensures.keys
+pub invariant_of-self-2 : goal.invariant_of-self-2
+invariant_of-self-2 c =
+    let there : slice_get c.reach.new.trees.items c.spot_of-spot.result ≡ Some c.index_mut.result.now = slice_get_read _ _ _ _ refl c.in_ok-reach.ensures.reached c.index_mut.ensures.value in
+    at_their_spots-set c.in_ok-name.name.items _ _ _ _
+    (at_their_spots-reached _ _ c.self.invariant c.in_ok-reach.ensures.names c.in_ok-reach.ensures.spots)
+    (c.spot_of-spot.ensures ∙ ap spot_of c.deref.ensures.value) there
+    (λ q. among-insert q c.in_ok-name.name.items c.in_ok-name.name _ _ c.in_ok-insert.ensures.keys refl)
 
-pub returns-in-Here-clause-inserted : goal.returns-in-Here-clause-inserted
-returns-in-Here-clause-inserted c =
-    let here = said _ _ _ _ _ _ _ _ c.deref.ensures.value c.deref-2.ensures.value c.deref-3.ensures.value c.find_spot.ensures c.in-Here.is in
-    let known = here_among _ _ c.self.inside.crowded.keys _ here in
-    rw (← c.self.view_is) (known_among _ _ _ known c.in_ok-name.ensures)
-
-pub returns-in_ok-insert-in-Other-clause-inserted : goal.returns-in_ok-insert-in-Other-clause-inserted
-returns-in_ok-insert-in-Other-clause-inserted c =
-    rw (← c.self.view_is)
-    (crowded_among c.self.inside.rows.items c.self.inside.crowded.keys _ _ _ c.in_ok-insert-in-Other.ensures.keys c.in_ok-name.ensures)
+pub returns-clause-inserted : goal.returns-clause-inserted
+returns-clause-inserted c = λ q.
+    let there : slice_get c.reach.new.trees.items c.spot_of-spot.result ≡ Some c.index_mut.result.now = slice_get_read _ _ _ _ refl c.in_ok-reach.ensures.reached c.index_mut.ensures.value in
+    let before : is_among (names_in c.reach.new.trees.items) q ≡ is_among c.args.self.now q = ap (λ names. is_among names q) (c.in_ok-reach.ensures.names ∙ c.self.view_is) in
+    let spelt : bytes_eq q c.in_ok-name.name.items ≡ bytes_eq q (upper c.args.name.now) = ap (bytes_eq q) c.in_ok-name.ensures in
+    among-set c.in_ok-name.name.items c.reach.new.trees.items c.spot_of-spot.result c.index_mut.result.now c.insert.new.self there
+    (λ q. among-insert q c.in_ok-name.name.items c.in_ok-name.name _ _ c.in_ok-insert.ensures.keys refl) q
+    ∙ (λ i. spelt i || before i)
