@@ -466,6 +466,21 @@ fn read_only_set() -> HashSet<&'static [u8]> {
     .into()
 }
 
+/// Looks names up in a set of all of them.
+fn time_names(count: usize, name: impl Fn(usize) -> String) {
+    let names: Vec<Vec<u8>> = (0..count).map(|number| name(number).into_bytes()).collect();
+    let set: HashSet<Vec<u8>> = names.iter().cloned().collect();
+    let mut turn = 0_usize;
+    time(
+        || (),
+        |()| {
+            turn += 1;
+            let at = ((turn.wrapping_mul(40_503) & 0xFFFF) * count) >> 16;
+            set.contains(&names[at])
+        },
+    );
+}
+
 type Routes = Vec<(Route, Vec<usize>)>;
 
 /// The routes of a command whose keys stand at each `width`th argument.
@@ -707,6 +722,10 @@ fn main() {
         "topology" => time_topology(Hosts::Shared, size),
         "topology-one-hash" => time_topology(Hosts::OneHash, size),
         "nodes-one-hash" => time_all_nodes(Hosts::OneHash, size),
+        "read-only-names" => time_names(size, |number| format!("MOD{}.CMD{number}", number % 50)),
+        "read-only-names-one-spot" => {
+            time_names(size, |number| format!("PICKED{number:06}ABCDEFGHIJ"));
+        }
         "route-get" => time_route(&[b"GET", &vec![b'k'; size]], only_reads),
         "route-get-by-set" => {
             let set = read_only_set();

@@ -1,6 +1,6 @@
 //! Calls on commands.
 use crate::fault::Fault;
-use crate::given::{Given, command_of};
+use crate::given::{Given, command_of, read_only_of};
 use crate::watch::Watch;
 use memory_nodes::MemoryNodes;
 use redis_cluster::driver::drive;
@@ -12,6 +12,18 @@ use std::alloc::{AllocError, Global};
 /// A command of words, made and dropped.
 pub fn made(given: &Given<'_>, _turn: usize) -> Result<usize, Fault> {
     Ok(command_of(given.alloc, given.words)?.len())
+}
+
+/// Names that only read, looked up among all words.
+pub fn looked_up(watch: &mut Watch<'_>, given: &Given<'_>) -> Result<(), Fault> {
+    let names = read_only_of(given.alloc, given.words)?;
+    watch.time(given, |given, turn| {
+        let at = (turn.wrapping_mul(40_503) & 0xFFFF).wrapping_mul(given.words.len()) >> 16;
+        match given.words.get(at) {
+            Some(word) => Ok(usize::from(names.contains(word))),
+            None => Err(Fault::Refused),
+        }
+    })
 }
 
 /// The slot that a command of one key goes to.

@@ -42,9 +42,14 @@ pub fn command_of(alloc: Global, words: &[&[u8]]) -> Result<Cmd, AllocError> {
 
 /// The names of some commands that only read.
 pub fn read_only(alloc: Global) -> Result<ReadOnlyNames, AllocError> {
+    read_only_of(alloc, &[b"GET", b"MGET", b"EXISTS", b"JSON.MGET", b"XREAD"])
+}
+
+/// A set of these names.
+pub fn read_only_of(alloc: Global, words: &[&[u8]]) -> Result<ReadOnlyNames, AllocError> {
     let mut names = ReadOnlyNames::new(alloc);
-    for name in ["GET", "MGET", "EXISTS", "JSON.MGET", "XREAD"] {
-        names.insert(alloc, name.as_bytes())?;
+    for word in words {
+        names.insert(alloc, word)?;
     }
     Ok(names)
 }

@@ -39,6 +39,7 @@ fn call(name: &str, watch: &mut Watch<'_>, given: &Given<'_>) -> Result<(), Faul
         "map-from-reply" => watch.time(given, maps::from_reply),
         "topology" | "topology-one-hash" => watch.time(given, maps::topology),
         "nodes-one-hash" => watch.time(given, maps::nodes),
+        "read-only-names" | "read-only-names-one-spot" => commands::looked_up(watch, given),
         "route-get" => watch.time(given, commands::route),
         "split-del" => watch.time(given, commands::split),
         "split-and-parts-del" => watch.time(given, commands::split_with_parts),
