@@ -11,13 +11,13 @@ use std::collections::BTreeSet;
 use std::marker::Model;
 
 /// How many spots names have.
-const SPOTS: usize = 256;
+const SPOTS: usize = 64;
 
 /// The names of the commands that only read, whose keys a replica may serve.
 ///
 /// A command's name is looked up as `Routable::command` gives it, in upper case.
 ///
-/// Five bytes of a name make its number, which gives it one of 256 spots. The names of a spot stand
+/// Five bytes of a name make its number, which gives it one of 64 spots. The names of a spot stand
 /// in a tree. So a look-up compares few names, and costs O(log n) at worst, whatever names are put
 /// in.
 #[derive(Drop)]
