@@ -1,5 +1,4 @@
-ghost use Rattle.std.specs.Prelude.{◌≡◌, ◌<◌, ◌+◌, ◌*◌, ◌↔◌, [], ◌∷◌, ◌++◌, ℕ, List, IsSome, IfSome, MatchOption, Contains, position, fold, length, replicate, nat_eq, ◌==◌, bit_xor};
-ghost use Rattle.std.specs.List.{list_any};
+ghost use Rattle.std.specs.Prelude.{◌≡◌, ◌<◌, ◌+◌, ◌*◌, ◌↔◌, [], ◌∷◌, ◌++◌, ℕ, List, IsSome, IfSome, MatchOption, Contains, position, fold, length, replicate, ◌==◌, bit_xor};
 ghost use Rattle.cluster_slots.specs.HashTag.{HasTag, HasNoTag, IsHashTag};
 ghost use Rattle.cluster_slots.specs.declared.slot.TheConstants.{SLOT_SIZE};
 ghost use Rattle.cluster_slots.specs.KeySlot.{rem, low_bits, zeros_down, crc_of, IsKeySlot, key_slot};
@@ -7,6 +6,7 @@ ghost use Rattle.cluster_slots.specs.KeySlot.{rem, low_bits, zeros_down, crc_of,
 mod remainders;
 
 use self::remainders::REMAINDERS;
+use memchr::memchr;
 use std::marker::Model;
 
 /// How many slots a cluster has.
@@ -143,8 +143,17 @@ impl Route {
     }
 }
 
-/// The bytes before and after the first `byte`.
+/// The bytes before and after the first `byte`, which may stand behind many others.
 fn cut_at(bytes: &[u8], byte: u8) -> Option<(&[u8], &[u8])>
+    ensures { MatchOption result (¬ (Contains bytes.now byte))
+        (λ parts. (bytes.now ≡ parts.0.now ++ byte ∷ parts.1.now) × ¬ (Contains parts.0.now byte)) }
+{
+    let at = memchr(byte, bytes)?;
+    Some((&bytes[..at], &bytes[at + 1..]))
+}
+
+/// The same for a byte that is likely to be near. There `memchr` would take longer.
+fn cut_near(bytes: &[u8], byte: u8) -> Option<(&[u8], &[u8])>
     ensures { MatchOption result (¬ (Contains bytes.now byte))
         (λ parts. (bytes.now ≡ parts.0.now ++ byte ∷ parts.1.now) × ¬ (Contains parts.0.now byte)) }
 {
@@ -152,40 +161,16 @@ fn cut_at(bytes: &[u8], byte: u8) -> Option<(&[u8], &[u8])>
     Some((&bytes[..at], &bytes[at + 1..]))
 }
 
-/// Whether `bytes` contains `byte`. Up to three are compared without a loop, which would take
-/// longer.
-fn has_byte(bytes: &[u8], byte: u8) -> bool
-    ensures { result ≡ list_any (nat_eq byte) bytes.now }
-{
-    match bytes {
-        [] => false,
-        [a] => byte == *a,
-        [a, b] => (byte == *a) | (byte == *b),
-        [a, b, c] => (byte == *a) | (byte == *b) | (byte == *c),
-        _ => is_among(bytes, byte),
-    }
-}
-
-/// Whether `bytes` contains `byte`. The loop never ends early, so many are compared at once.
-fn is_among(bytes: &[u8], byte: u8) -> bool
-    ensures { result ≡ list_any (nat_eq byte) bytes.now }
-{
-    let mut found = false;
-    for other in bytes {
-        found |= byte == *other;
-    }
-    found
-}
-
 /// What stands between the first braces of a key, if it is not empty.
 fn get_hashtag(key: &[u8]) -> Option<&[u8]>
     ensures { MatchOption result (HasNoTag key.now) (λ tag. HasTag key.now tag.now) }
 {
-    if !has_byte(key, b'{') {
+    // Most keys have no brace. In a short one `contains` sees that sooner than `memchr`.
+    if key.len() < 32 && !key.contains(&b'{') {
         return None;
     }
     let (_, rest) = cut_at(key, b'{')?;
-    let (tag, _) = cut_at(rest, b'}')?;
+    let (tag, _) = cut_near(rest, b'}')?;
     if tag.is_empty() { None } else { Some(tag) }
 }
 

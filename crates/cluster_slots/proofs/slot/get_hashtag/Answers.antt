@@ -1,18 +1,8 @@
 use Rattle.std.proofs.Common.{◌≡◌, length, arith}
 use Rattle.std.proofs.lemmas.Bool.Decides.{nat_tests}
 use Rattle.std.proofs.lemmas.List.{nil_from_length}
-use Rattle.std.specs.Prelude.{nat_eq, false}
-use Rattle.std.specs.List.{list_any}
-use Rattle.cluster_slots.proofs.Lists.{free_from}
-use Rattle.cluster_slots.proofs.Tags.{lacking}
 use Rattle.cluster_slots.proofs.HashTags.{no_open, no_close, nothing_between}
 use Rattle.cluster_slots.proofs.slot.get_hashtag.Goals as goal
-
--- where the byte is not one of the key's, there is no tag
-pub returns-then-not-has_byte : goal.returns-then-not-has_byte
-returns-then-not-has_byte c =
-    let none : list_any (nat_eq 123) c.args.key.now ≡ false = grind (arith, nat_tests) in
-    no_open c.args.key.now (free_from 123 c.args.key.now (lacking 123 c.args.key.now none).0)
 
 pub returns-in_err-rest : goal.returns-in_err-rest
 returns-in_err-rest c = rw c.from_residual.ensures (no_open c.args.key.now c.in_err-rest.ensures)
