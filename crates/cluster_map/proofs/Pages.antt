@@ -1,20 +1,18 @@
 -- The numbers of pages, from which a place is found by a look at few ends.
-use Rattle.std.proofs.Common.{◌≡◌, ◌<◌, ◌≤◌, ◌+◌, ◌*◌, ◌/◌, ◌^◌, ℕ, zero, suc, true, false, nat_lt, nat_cmp, List, [], ◌∷◌, ◌++◌, length, map, take, drop, get_or, set, sym, ap, ◌∙◌, arith}
+use Rattle.std.proofs.Common.{◌≡◌, ◌<◌, ◌≤◌, ◌+◌, ◌*◌, ◌/◌, ◌^◌, ℕ, zero, suc, true, false, nat_lt, List, [], ◌∷◌, ◌++◌, length, map, take, drop, get_or, sym, ap, ◌∙◌, arith}
 use Rattle.std.proofs.lemmas.Bool.{lt-ltb, le-ltb}
 use Rattle.std.proofs.lemmas.Bool.Decides.{nat_tests}
 use Rattle.std.proofs.lemmas.List.{get_or-take, get_or-drop, take-append-drop, length-take-le, length-drop}
 use Rattle.std.proofs.lemmas.List.Edits.{insert-append_left}
-use Rattle.std.proofs.Math.Nat.{div-mul-le_self, div-lt_iff_lt-mul, mul-le-mul_right}
-use Rattle.std.proofs.Math.Pow.{pow-lt}
+use Rattle.std.proofs.Math.Nat.{div-mul-le_self}
 use Rattle.std.specs.List.{insert}
 use Rattle.std.specs.Int.{from_bool}
 use Rattle.std.specs.List.Sorted.{IsNonDecreasing}
-use Rattle.std.specs.Ordering.{ord_max}
 use Rattle.std.proofs.lemmas.Grind.{common_steps}
 use Rattle.resp_core.proofs.Cases.{by_test}
 use Rattle.cluster_map.specs.RangeIndex.{ArePages, IsIndex}
-use Rattle.cluster_map.specs.RangeMap.{RangeEntry, end_of, Ascends}
-use Rattle.cluster_map.proofs.Places.{below, below_at, place_in, place_found, ends_seen_rise, ends-insert}
+use Rattle.cluster_map.specs.RangeMap.{RangeEntry, end_of}
+use Rattle.cluster_map.proofs.Places.{below, below_at, ends-insert}
 
 -- more of the ends are below a greater one
 pub below-more : (low high : ℕ) (ends : List ℕ) → low ≤ high → below low ends ≤ below high ends
@@ -50,16 +48,9 @@ below_near end k ends window rise known long same few =
     squeeze k (below end window) (below end ends) known few (λ i w.
     sym (below_at end window i 0 rises (omega arith)) ∙ ap (λ z. nat_lt z end) (at i 0 w) ∙ below_at end ends (k + i) 0 rise (omega arith))
 
--- a page begins at its slots or before them, and they are before the next page
-pub page_begins : (slot bits : ℕ) → slot / 2 ^ bits * 2 ^ bits ≤ slot
+-- a page begins at its slots or before them
+page_begins : (slot bits : ℕ) → slot / 2 ^ bits * 2 ^ bits ≤ slot
 page_begins slot bits = div-mul-le_self slot (2 ^ bits)
-
-some_slots : (bits : ℕ) → 0 < 2 ^ bits
-some_slots zero = omega arith
-some_slots (suc bits) = let less = pow-lt {i = 0} {j = suc bits} (omega arith) in omega arith
-
-page_ends : (slot bits : ℕ) → slot < (slot / 2 ^ bits + 1) * 2 ^ bits
-page_ends slot bits = (div-lt_iff_lt-mul {k = 2 ^ bits} {x = slot} {y = slot / 2 ^ bits + 1} (some_slots bits)).0 (omega arith)
 
 -- the number of a slot's page is one that a place may begin from
 pub page_known : (bits slot d : ℕ) (numbers ends : List ℕ) → ArePages bits numbers ends → slot / 2 ^ bits < length numbers → get_or numbers (slot / 2 ^ bits) d ≤ below slot ends
@@ -67,24 +58,6 @@ page_known bits slot d numbers ends pages within =
     let known = pages (slot / 2 ^ bits) d within in
     let more = below-more (slot / 2 ^ bits * 2 ^ bits) slot ends (page_begins slot bits) in
     omega arith
-
--- an end and those before it are below the page after its own
-pub below_next_page : (bits place d : ℕ) (ends : List ℕ) → IsNonDecreasing ends → place < length ends → place + 1 ≤ below ((get_or ends place d / 2 ^ bits + 1) * 2 ^ bits) ends
-below_next_page bits place d ends rise within =
-    let next = (get_or ends place d / 2 ^ bits + 1) * 2 ^ bits in
-    let counted : nat_lt place (below next ends) ≡ true = sym (below_at next ends place d rise within) ∙ lt-ltb (get_or ends place d) next (page_ends (get_or ends place d) bits) in
-    grind (arith, nat_tests)
-
--- a number written to a page
-pub ArePages-set : (bits page number : ℕ) (numbers ends : List ℕ) → ArePages bits numbers ends → page < length numbers → number ≤ below (page * 2 ^ bits) ends → ArePages bits (set numbers page number) ends
-ArePages-set bits page number numbers ends pages there few p d within = grind (arith, common_steps)
-
-pub ord_max_le : (a b k : ℕ) → a ≤ k → b ≤ k → ord_max nat_cmp a b ≤ k
-ord_max_le a b k h l = grind (arith, common_steps)
-
--- what is below a page is below the next
-pub below_next : (bits page : ℕ) (ends : List ℕ) → below (page * 2 ^ bits) ends ≤ below ((page + 1) * 2 ^ bits) ends
-below_next bits page ends = below-more (page * 2 ^ bits) ((page + 1) * 2 ^ bits) ends (mul-le-mul_right (2 ^ bits) (omega arith))
 
 -- one end more, by its test as a number
 pub below-one : (end e : ℕ) (ends : List ℕ) (one : ℕ) → one ≡ from_bool (nat_lt e end) → below end (e ∷ ends) ≡ one + below end ends
@@ -115,18 +88,6 @@ IsIndex-insert es index bits place start end value within is =
     IsIndex-written (insert es place (start, end, value)) (insert (take n index) place end) (drop n index) (insert index place end) bits ends pages is.small
     (ap (λ z. insert z place end) (sym (take-append-drop n index)) ∙ insert-append_left (take n index) (drop n index) place end room)
 
--- what a search sees of an index, and the place that it finds
-seen_ends : {V : Type 0} (es : List (RangeEntry V)) (index seen : List ℕ) (bits count : ℕ) → IsIndex es index bits → seen ≡ index → count ≡ length es → take count seen ≡ map end_of es
-seen_ends es index seen bits count is same size = ap (take count) same ∙ ap (λ n. take n index) size ∙ is.ends
-
-pub seen_long : {V : Type 0} (es : List (RangeEntry V)) (index seen : List ℕ) (bits count : ℕ) → IsIndex es index bits → seen ≡ index → count ≡ length es → count ≤ length seen
-seen_long es index seen bits count is same size = rw (size, same) is.long
-
-pub seen_rises : {V : Type 0} (es : List (RangeEntry V)) (index seen : List ℕ) (bits count : ℕ) → Ascends es → IsIndex es index bits → seen ≡ index → count ≡ length es → IsNonDecreasing (take count seen)
-seen_rises es index seen bits count ascends is same size = ends_seen_rise es (take count seen) ascends (seen_ends es index seen bits count is same size)
-
-pub seen_pages : {V : Type 0} (es : List (RangeEntry V)) (index seen : List ℕ) (bits count : ℕ) → IsIndex es index bits → seen ≡ index → count ≡ length es → ArePages bits (drop count seen) (take count seen)
-seen_pages es index seen bits count is same size = rw (seen_ends es index seen bits count is same size, size, same) is.pages
-
-pub place_seen : {V : Type 0} (es : List (RangeEntry V)) (index seen : List ℕ) (bits count end place : ℕ) → IsIndex es index bits → seen ≡ index → count ≡ length es → place ≡ below end (take count seen) → place ≡ place_in es end
-place_seen es index seen bits count end place is same size found = place_found es (take count seen) end place found (seen_ends es index seen bits count is same size)
+-- the ends that a search cuts off an index are those of the entries
+pub seen_ends : {V : Type 0} (es : List (RangeEntry V)) (index seen ends : List ℕ) (bits count : ℕ) → IsIndex es index bits → seen ≡ index → count ≡ length es → ends ≡ take count seen → ends ≡ map end_of es
+seen_ends es index seen ends bits count is same size cut = cut ∙ ap (take count) same ∙ ap (λ n. take n index) size ∙ is.ends

@@ -4,7 +4,7 @@ use Rattle.std.specs.Prelude.{Some, None}
 use Rattle.std.proofs.lemmas.Bool.{eqb-true, cases_lt, cases_order, lt-ltb, le-ltb, cond-true, cond-false}
 use Rattle.std.proofs.lemmas.Bool.Decides.{nat_tests}
 use Rattle.std.specs.List.{insert}
-use Rattle.std.specs.List.Sorted.{IsNonDecreasing}
+use Rattle.std.specs.List.Sorted.{IsNonDecreasing, IsPartitionPoint}
 use Rattle.std.proofs.lemmas.Grind.{common_steps}
 use Rattle.resp_core.proofs.Cases.{by_test}
 use Rattle.cluster_map.specs.RangeMap.{RangeEntry, end_of, ends_at, EndsAfter, Ascends, IsUncovered, insert_entry}
@@ -57,6 +57,14 @@ below_at end (e ∷ ends) (suc k) d rise within = elim (cases_lt e end) [
   | inl less ↦ rw (lt-ltb e end less) (below_at end ends k d (λ i j c order short. rise (suc i) (suc j) c (omega arith) (omega arith)) (omega arith) ∙ ltb-suc k (below end ends))
   | inr from ↦ none_from end e ends (suc k) d rise from within
 ]
+
+-- where the ends below go over into the others, as many are below
+pub below_point : (end : ℕ) (ends : List ℕ) (place : ℕ) → place ≤ length ends → IsPartitionPoint (λ e. nat_lt e end ≡ true) (λ e. nat_lt e end ≡ false) ends place → place ≡ below end ends
+below_point end [] place most point = omega arith
+below_point end (e ∷ ends) zero most point =
+    rw (point.1 0 0 (omega arith) (omega arith)) (below_point end ends zero (omega arith) ((λ k d low high. absurd (omega arith)), (λ k d low high. point.1 (suc k) d (omega arith) (omega arith))))
+below_point end (e ∷ ends) (suc place) most point =
+    rw (point.0 0 0 (omega arith) (omega arith)) (ap suc (below_point end ends place (omega arith) ((λ k d low high. point.0 (suc k) d (omega arith) (omega arith)), (λ k d low high. point.1 (suc k) d (omega arith) (omega arith)))))
 
 -- how many entries end before this end
 abbrev pub place_in : {V : Type 0} → List (RangeEntry V) → ℕ → ℕ

@@ -40,40 +40,20 @@ impl<V> Model for SlotRangeMap<V> {
         × IsIndex m.ranges.items m.index.items m.page_bits };
 }
 
-/// Whether there is an end at index `place`, and it is below `end`.
-fn is_below(ends: &[u16], place: usize, end: u16) -> bool
-    requires { IsNonDecreasing ends.now }
-    ensures { result ≡ nat_lt place (length (filter (λ e. nat_lt e end) ends.now)) }
-{
-    place < ends.len() && ends[place] < end
-}
-
 /// Number of ends below `end`.
-///
-/// Each step looks at three ends, which cut what is left into four parts, and counts those below. A
-/// branch at each of them would be guessed wrong half of the time.
 fn place_of(ends: &[u16], end: u16) -> usize
     requires { IsNonDecreasing ends.now }
     ensures place { result ≡ length (filter (λ e. nat_lt e end) ends.now) }
     ensures bound { result ≤ length ends.now }
 {
-    let mut place = 0;
-    let mut left = ends.len();
-    while left > 0 {
-        let part = left / 4 + 1;
-        let below = usize::from(is_below(ends, place + part - 1, end))
-            + usize::from(is_below(ends, place + 2 * part - 1, end))
-            + usize::from(is_below(ends, place + 3 * part - 1, end));
-        place += part * below;
-        left /= 4;
-    }
-    place
+    ends.partition_point(|other| *other < end)
 }
 
 /// How many ends are compared at once.
 const LANES: usize = 16;
 
-/// Number of ends below `end`, among few ends.
+/// Number of ends below `end`, by a comparison with each. The loop never ends early, so many are
+/// compared at once.
 fn count_below(ends: &[u16], end: u16) -> usize
     ensures { result ≡ length (filter (λ e. nat_lt e end) ends.now) }
 {
@@ -85,16 +65,16 @@ fn count_below(ends: &[u16], end: u16) -> usize
 }
 
 /// Number of ends below `end`, if at least `known` are. Compares `LANES` ends, and returns `None`
-/// if all of these are below.
+/// if all of these are below, or there are fewer.
 fn place_near(ends: &[u16], known: usize, end: u16) -> Option<usize>
     requires rises { IsNonDecreasing ends.now }
-    requires many { 16 ≤ length ends.now }
     requires known { known ≤ length (filter (λ e. nat_lt e end) ends.now) }
     ensures place { IfSome result
         (λ place. place ≡ length (filter (λ e. nat_lt e end) ends.now)) }
     ensures bound { IfSome result (λ place. place ≤ length ends.now) }
 {
-    let first = known.min(ends.len() - LANES);
+    let last = ends.len().checked_sub(LANES)?;
+    let first = known.min(last);
     let below = count_below(&ends[first..first + LANES], end);
     if below < LANES {
         Some(first + below)
@@ -103,29 +83,24 @@ fn place_near(ends: &[u16], known: usize, end: u16) -> Option<usize>
     }
 }
 
-/// Number of ends below `end`, in an index of `count` ranges.
-fn place_in(index: &[u16], count: usize, page_bits: u32, end: u16) -> usize
-    requires long { count ≤ length index.now }
-    requires bits { page_bits < 16 }
-    requires rises { IsNonDecreasing (take count index.now) }
-    requires pages { ArePages page_bits (drop count index.now) (take count index.now) }
-    ensures place { result ≡ length (filter (λ e. nat_lt e end) (take count index.now)) }
-    ensures bound { result ≤ count }
+/// Number of ends below `end`, if at least `known` are.
+fn place_from(ends: &[u16], known: usize, end: u16) -> usize
+    requires rises { IsNonDecreasing ends.now }
+    requires known { known ≤ length (filter (λ e. nat_lt e end) ends.now) }
+    ensures place { result ≡ length (filter (λ e. nat_lt e end) ends.now) }
+    ensures bound { result ≤ length ends.now }
 {
-    let (ends, pages) = index.split_at(count);
-    if count < LANES {
-        count_below(ends, end)
-    } else {
-        place_by_pages(ends, pages, page_bits, end)
+    match place_near(ends, known, end) {
+        Some(place) => place,
+        None => place_of(ends, end),
     }
 }
 
-/// Number of ends below `end`, among `LANES` or more, by the number of its page. Never inline, so
-/// that a look-up among fewer can be.
+/// Number of ends below `end`, by the number of its page. Never inline, so that a look-up among few
+/// ends can be.
 #[inline(never)]
 fn place_by_pages(ends: &[u16], pages: &[u16], page_bits: u32, end: u16) -> usize
     requires rises { IsNonDecreasing ends.now }
-    requires many { 16 ≤ length ends.now }
     requires bits { page_bits < 16 }
     requires pages { ArePages page_bits pages.now ends.now }
     ensures place { result ≡ length (filter (λ e. nat_lt e end) ends.now) }
@@ -135,10 +110,7 @@ fn place_by_pages(ends: &[u16], pages: &[u16], page_bits: u32, end: u16) -> usiz
         Some(number) => usize::from(*number),
         None => 0,
     };
-    match place_near(ends, known, end) {
-        Some(place) => place,
-        None => place_of(ends, end),
-    }
+    place_from(ends, known, end)
 }
 
 /// Whether there is a range at index `place`, and it has this end.
@@ -170,8 +142,21 @@ impl<V> SlotRangeMap<V> {
         SlotRangeMap::new(alloc)
     }
 
-    /// Inserts a range, both ends included, and replaces the one with the same end. Its index is
-    /// found in O(log n), and a new range moves all that end after it. Use `extend` for many.
+    /// Number of ranges that end before `end`.
+    fn place(&self, end: u16) -> usize
+        ensures { result ≡ length (filter (λ e. nat_lt (end_of e) end) self.now) }
+    {
+        let (ends, pages) = self.index.split_at(self.ranges.len());
+        if ends.len() < LANES {
+            count_below(ends, end)
+        } else {
+            place_by_pages(ends, pages, self.page_bits, end)
+        }
+    }
+
+    /// Inserts a range, both ends included, and replaces the one with the same end. A new range
+    /// moves all that end after it. So n inserts take O(n²), unless they ascend by end. Use `extend`
+    /// for many.
     ///
     /// # Errors
     ///
@@ -182,7 +167,7 @@ impl<V> SlotRangeMap<V> {
         ensures put { OnOk result (self.new ≡ insert_entry self.old start end value) }
         ensures unchanged { OnErr result (self.new ≡ self.old) }
     {
-        let place = place_in(&self.index, self.ranges.len(), self.page_bits, end);
+        let place = self.place(end);
         if ends_at(self.ranges.as_slice(), place, end) {
             self.ranges[place] = (start, end, value);
         } else {
@@ -205,7 +190,7 @@ impl<V> SlotRangeMap<V> {
             value.now) }
         ensures order { Ascends self.now }
     {
-        let place = place_in(&self.index, self.ranges.len(), self.page_bits, slot);
+        let place = self.place(slot);
         let (start, _, value) = self.ranges.get(place)?;
         (*start <= slot).then_some(value)
     }
@@ -331,40 +316,34 @@ fn write_index<V>(
     index.clear();
     index.resize(ranges.len() + pages, 0)?;
     let (ends, numbers) = index.split_at_mut(ranges.len());
-    note_ends(ranges, page_bits, ends, numbers);
-    raise_to_earlier(numbers);
+    write_ends(ranges, ends);
+    write_pages(ends, page_bits, numbers);
     Ok(())
 }
 
-/// Writes the ends of the ranges. The page after the page of an end gets the number of ends up to
-/// it. A number that loses its top bit only makes a look-up longer.
-fn note_ends<V>(ranges: &[(u16, u16, V)], page_bits: u32, ends: &mut [u16], numbers: &mut [u16])
-    requires bits { page_bits < 16 }
-    requires ascends { Ascends ranges.now }
-    requires room { length ends.old ≡ length ranges.now }
-    requires pages { ArePages page_bits numbers.old (map end_of ranges.now) }
-    ensures ends { ends.new ≡ map end_of ranges.now }
-    ensures pages { ArePages page_bits numbers.new (map end_of ranges.now) }
+/// Writes the ends of the ranges.
+fn write_ends<V>(ranges: &[(u16, u16, V)], ends: &mut [u16])
+    requires { length ends.old ≡ length ranges.now }
+    ensures { ends.new ≡ map end_of ranges.now }
 {
     for place in 0..ranges.len() {
-        let end = ranges[place].1;
-        ends[place] = end;
-        let page = usize::from(end >> page_bits) + 1;
-        if page < numbers.len() {
-            numbers[page] = ((place + 1) % 65536) as u16;
-        }
+        ends[place] = ranges[place].1;
     }
 }
 
-/// Raises each number to the greatest before it: what is below a page is below later pages.
-fn raise_to_earlier(numbers: &mut [u16])
-    ensures { (bits : ℕ) (ends : List ℕ) → ArePages bits numbers.old ends
-        → ArePages bits numbers.new ends }
+/// Writes for each page the number of ends below its first slot. A number that loses its top bit
+/// only makes a look-up longer.
+fn write_pages(ends: &[u16], page_bits: u32, numbers: &mut [u16])
+    requires bits { page_bits < 16 }
+    requires rises { IsNonDecreasing ends.now }
+    ensures { ArePages page_bits numbers.new ends.now }
 {
-    let mut most = 0;
+    let mut first = 0_u16;
+    let mut known = 0;
     for page in 0..numbers.len() {
-        most = most.max(numbers[page]);
-        numbers[page] = most;
+        known = place_from(ends, known, first);
+        numbers[page] = (known % 65536) as u16;
+        first = first.saturating_add(1 << page_bits);
     }
 }
 

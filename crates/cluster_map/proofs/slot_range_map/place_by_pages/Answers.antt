@@ -4,8 +4,8 @@ use Rattle.cluster_map.proofs.Pages.{page_known}
 use Rattle.cluster_map.proofs.slot_range_map.place_by_pages.Goals.{in-Some, in-None}
 use Rattle.cluster_map.proofs.slot_range_map.place_by_pages.Goals as goal
 
-pub place_near-requires-clause-known : goal.place_near-requires-clause-known
-place_near-requires-clause-known c =
+pub place_from-requires-clause-known : goal.place_from-requires-clause-known
+place_from-requires-clause-known c =
     let ends = c.args.ends.now in
     let numbers = c.args.pages.now in
     let pages = c.requires.pages in

@@ -1,36 +1,26 @@
-use Rattle.std.proofs.Common.{◌≡◌, ◌∙◌, inl, inr, arith, slice_get, Some, None}
+use Rattle.std.proofs.Common.{◌≡◌, inl, inr, arith, slice_get, Some, None}
 use Rattle.std.proofs.lemmas.Bool.{cases_lt, le-leb, lt-leb}
 use Rattle.std.proofs.lemmas.Grind.{common_steps}
 use Rattle.std.proofs.lemmas.Option.{gets}
 use Rattle.cluster_map.proofs.Ranges.{IsAnswerAt-first, IsUncovered-first, disjoint_law}
-use Rattle.cluster_map.proofs.Pages.{seen_long, seen_rises, seen_pages, place_seen}
-use Rattle.cluster_map.proofs.Places.{EndsFirstFrom-found, IsUncovered-not_found}
+use Rattle.cluster_map.proofs.Places.{place_in, EndsFirstFrom-found, IsUncovered-not_found}
 use Rattle.cluster_map.proofs.slot_range_map.SlotRangeMap.get.Goals as goal
-
-pub place_in-place-requires-clause-long : goal.place_in-place-requires-clause-long
-place_in-place-requires-clause-long g c = seen_long c.self.inside.ranges.items c.self.inside.index.items _ _ _ c.self.invariant.1 c.deref.ensures.value (c.len.ensures ∙ c.self.inside.ranges.ok.0)
-
-pub place_in-place-requires-clause-rises : goal.place_in-place-requires-clause-rises
-place_in-place-requires-clause-rises g c = seen_rises c.self.inside.ranges.items c.self.inside.index.items _ _ _ c.self.invariant.0 c.self.invariant.1 c.deref.ensures.value (c.len.ensures ∙ c.self.inside.ranges.ok.0)
-
-pub place_in-place-requires-clause-pages : goal.place_in-place-requires-clause-pages
-place_in-place-requires-clause-pages g c = seen_pages c.self.inside.ranges.items c.self.inside.index.items _ _ _ c.self.invariant.1 c.deref.ensures.value (c.len.ensures ∙ c.self.inside.ranges.ok.0)
 
 -- no entry ends at the slot or after it
 pub returns-in_err-start-clause-least : goal.returns-in_err-start-clause-least
 returns-in_err-start-clause-least g c =
-    let place = place_seen c.self.inside.ranges.items c.self.inside.index.items _ _ _ c.args.slot _ c.self.invariant.1 c.deref.ensures.value (c.len.ensures ∙ c.self.inside.ranges.ok.0) c.place_in-place.ensures.place in
-    let none : slice_get c.deref-2.result.now c.place_in-place.result ≡ None = grind (arith, common_steps, gets) in
+    let place : c.place-place.result ≡ place_in c.self.inside.ranges.items c.args.slot = rw c.self.view_is c.place-place.ensures in
+    let none : slice_get c.deref.result.now c.place-place.result ≡ None = grind (arith, common_steps, gets) in
     rw (c.from_residual.ensures, ← c.self.view_is)
-    (IsUncovered-not_found c.self.inside.ranges.items _ c.place_in-place.result c.args.slot c.self.invariant.0 c.deref-2.ensures.value place none)
+    (IsUncovered-not_found c.self.inside.ranges.items _ c.place-place.result c.args.slot c.self.invariant.0 c.deref.ensures.value place none)
 
 -- the first entry that ends at the slot or after it answers, unless it starts after the slot
 pub returns-clause-least : goal.returns-clause-least
 returns-clause-least g c =
     let entry = c.in_ok-start.field-0.now in
-    let place = place_seen c.self.inside.ranges.items c.self.inside.index.items _ _ _ c.args.slot _ c.self.invariant.1 c.deref.ensures.value (c.len.ensures ∙ c.self.inside.ranges.ok.0) c.place_in-place.ensures.place in
-    let there : slice_get c.deref-2.result.now c.place_in-place.result ≡ Some entry = grind (arith, common_steps, gets) in
-    let first = EndsFirstFrom-found c.self.inside.ranges.items _ c.place_in-place.result c.args.slot entry c.self.invariant.0 c.deref-2.ensures.value place there in
+    let place : c.place-place.result ≡ place_in c.self.inside.ranges.items c.args.slot = rw c.self.view_is c.place-place.ensures in
+    let there : slice_get c.deref.result.now c.place-place.result ≡ Some entry = grind (arith, common_steps, gets) in
+    let first = EndsFirstFrom-found c.self.inside.ranges.items _ c.place-place.result c.args.slot entry c.self.invariant.0 c.deref.ensures.value place there in
     elim (cases_lt c.args.slot entry.0) [
       | inl after ↦
           rw (c.then_some.ensures, lt-leb entry.0 c.args.slot after, ← c.self.view_is)
