@@ -663,13 +663,25 @@ fn time_sorted(size: usize) {
     time(|| replies.clone(), |replies| sorted(replies, &routes));
 }
 
-fn time_slots(size: usize) {
-    let key = |number: usize| {
-        let mut key = number.to_string().into_bytes();
-        key.resize(size, b'k');
-        key
-    };
-    let keys: Vec<Vec<u8>> = (0..64).map(key).collect();
+/// A key of so many bytes.
+fn plain_key(number: usize, size: usize) -> Vec<u8> {
+    let mut key = number.to_string().into_bytes();
+    key.resize(size, b'k');
+    key
+}
+
+/// A key with a hash tag after so many bytes.
+fn key_with_tag_last(number: usize, size: usize) -> Vec<u8> {
+    format!("{}{{user{number}}}", "k".repeat(size)).into_bytes()
+}
+
+/// A key with a hash tag before so many bytes.
+fn key_with_tag_first(number: usize, size: usize) -> Vec<u8> {
+    format!("{{user{number}}}{}", "k".repeat(size)).into_bytes()
+}
+
+fn time_slots(key: fn(usize, usize) -> Vec<u8>, size: usize) {
+    let keys: Vec<Vec<u8>> = (0..64).map(|number| key(number, size)).collect();
     let mut turn = 0;
     time(
         || (),
@@ -683,6 +695,19 @@ fn time_slots(size: usize) {
 /// A slot for each turn, spread over all.
 fn slot_at(turn: usize) -> u16 {
     (turn.wrapping_mul(40_503) & 16_383) as u16
+}
+
+fn time_inserts(size: usize) {
+    time(
+        || (),
+        |()| {
+            let mut map = BTreeMap::new();
+            for slot in (0..size as u16).rev() {
+                map.insert(slot, (slot, slot));
+            }
+            map.len()
+        },
+    );
 }
 
 fn time_nodes(size: usize) {
@@ -713,12 +738,15 @@ fn main() {
     let size = words.get(3).and_then(|word| word.parse().ok()).unwrap_or(1);
     let del = command_of_keys(b"DEL", size);
     match words.get(2).map_or("", String::as_str) {
-        "key-slot" => time_slots(size),
+        "key-slot" => time_slots(plain_key, size),
+        "key-tag-last" => time_slots(key_with_tag_last, size),
+        "key-tag-first" => time_slots(key_with_tag_first, size),
         "look-up" => time_nodes(size),
         "map-from-reply" => {
             let reply = slots_reply(size);
             time(|| (), |()| map_of(ranges_in(&reply, "10.0.0.1")));
         }
+        "insert-descending" | "extend-descending" => time_inserts(size),
         "topology" => time_topology(Hosts::Shared, size),
         "topology-one-hash" => time_topology(Hosts::OneHash, size),
         "nodes-one-hash" => time_all_nodes(Hosts::OneHash, size),

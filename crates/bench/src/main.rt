@@ -34,9 +34,11 @@ const ROUND_NANOS: usize = 200_000;
 /// Makes the calls of an operation, as the watch asks for them.
 fn call(name: &str, watch: &mut Watch<'_>, given: &Given<'_>) -> Result<(), Fault> {
     match name {
-        "key-slot" => watch.time(given, maps::key_slot),
+        "key-slot" | "key-tag-last" | "key-tag-first" => watch.time(given, maps::key_slot),
         "look-up" => watch.time(given, maps::node_of_slot),
         "map-from-reply" => watch.time(given, maps::from_reply),
+        "insert-descending" => watch.time(given, maps::inserted),
+        "extend-descending" => watch.time(given, maps::extended),
         "topology" | "topology-one-hash" => watch.time(given, maps::topology),
         "nodes-one-hash" => watch.time(given, maps::nodes),
         "read-only-names" | "read-only-names-one-spot" => commands::looked_up(watch, given),
