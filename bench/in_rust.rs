@@ -549,6 +549,25 @@ fn sum(replies: Vec<Value>) -> Result<Value, Refused> {
 }
 
 #[inline(never)]
+fn totals(replies: Vec<Value>) -> Result<Value, Refused> {
+    let mut totals: HashMap<Vec<u8>, i64> = HashMap::new();
+    for reply in replies {
+        let Value::Array(items) = reply else {
+            return Err(Refused);
+        };
+        let mut items = items.into_iter();
+        while let Some(key) = items.next() {
+            let (Value::BulkString(key), Some(Value::Int(number))) = (key, items.next()) else {
+                return Err(Refused);
+            };
+            *totals.entry(key).or_insert(0) += number;
+        }
+    }
+    let pair = |(key, total)| (Value::BulkString(key), Value::Int(total));
+    Ok(Value::Map(totals.into_iter().map(pair).collect()))
+}
+
+#[inline(never)]
 fn sorted(replies: Vec<Value>, routes: &Routes) -> Result<Value, Refused> {
     let count = replies.iter().map(|reply| match reply {
         Value::Array(items) => items.len(),
@@ -648,6 +667,23 @@ fn bulks(count: usize) -> Value {
 
 fn ints(count: usize) -> Vec<Value> {
     (0..count).map(|number| Value::Int(number as i64)).collect()
+}
+
+/// A number that has nothing to do with this one, but is the same in each run.
+fn mixed(number: u64) -> u64 {
+    let number = number.wrapping_mul(0x9E37_79B9_7F4A_7C15);
+    (number ^ number >> 32).wrapping_mul(0x9E37_79B9_7F4A_7C15)
+}
+
+/// A node's reply of keys and numbers in turn. Each node has the keys in an order of its own.
+fn counts(count: usize, node: usize) -> Value {
+    let mut numbers: Vec<usize> = (0..count).collect();
+    numbers.sort_by_key(|number| mixed((node * count + number) as u64));
+    let pair = |number: usize| {
+        let key = format!("key:{number}").into_bytes();
+        [Value::BulkString(key), Value::Int(number as i64)]
+    };
+    Value::Array(numbers.into_iter().flat_map(pair).collect())
 }
 
 fn time_sorted(size: usize) {
@@ -771,6 +807,10 @@ fn main() {
         "combine-sums" => {
             let replies = ints(size);
             time(|| replies.clone(), sum);
+        }
+        "combine-maps" => {
+            let replies: Vec<Value> = (0..3).map(|node| counts(size, node)).collect();
+            time(|| replies.clone(), totals);
         }
         "combine-sorted" => time_sorted(size),
         "command" => {

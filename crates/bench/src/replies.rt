@@ -4,7 +4,7 @@ use crate::fault::Fault;
 use crate::given::Given;
 use crate::watch::Watch;
 use redis_cluster::routing::{
-    AggregateOp, SplitCommand, aggregate, combine_and_sort_array_results,
+    AggregateOp, SplitCommand, aggregate, combine_and_sort_array_results, combine_map_results,
 };
 use resp_core::{Cmd, Value};
 use std::alloc::{AllocError, Global};
@@ -13,6 +13,7 @@ use std::alloc::{AllocError, Global};
 fn sample(reply: &Value) -> usize {
     match reply {
         Value::Array(items) => items.len(),
+        Value::Map(pairs) => pairs.len(),
         _ => 1,
     }
 }
@@ -26,6 +27,18 @@ pub fn summed(watch: &mut Watch<'_>, given: &Given<'_>) -> Result<(), Fault> {
         given,
         numbers,
         |_, numbers| Ok(sample(&aggregate(numbers, AggregateOp::Sum)?)),
+    )
+}
+
+/// The map of keys and their totals.
+pub fn mapped(watch: &mut Watch<'_>, given: &Given<'_>) -> Result<(), Fault> {
+    let Value::Array(counts) = given.items else {
+        return Err(Fault::Refused);
+    };
+    watch.time_with_copies(
+        given,
+        counts,
+        |given, counts| Ok(sample(&combine_map_results(given.alloc, counts)?)),
     )
 }
 
