@@ -1,5 +1,5 @@
 -- The order of the replies does not count for their totals.
-use Rattle.std.proofs.Common.{◌≡◌, length, ◌^◌, ℕ, ◌+◌, List, [], ◌∷◌, sym, ap, ◌∙◌, refl, arith, map, ℤ, pos, ◌+ℤ◌, Option, Some, None, Bool, true, false, cond}
+use Rattle.std.proofs.Common.{◌≡◌, length, ℕ, ◌+◌, List, [], ◌∷◌, sym, ap, ◌∙◌, refl, arith, map, ℤ, pos, ◌+ℤ◌, Option, Some, None, Bool, true, false, cond}
 use lib.IntN.{negsuc}
 use Rattle.std.specs.Prelude.{option_map, option_and_then, is_none, is_some, unwrap_or, ◌||◌, sum_by, flat_map}
 use Rattle.std.specs.List.{list_any}
@@ -14,7 +14,7 @@ use borrow.Author.Differences.{up, down}
 use Rattle.resp_core.specs.Reply.{Reply, array_of}
 use Rattle.cluster_slots.specs.Lists.{flatten}
 use Rattle.redis_combiners.specs.KeyNumbers.{KeyNumber, pairs_among, all_pairs}
-use Rattle.redis_combiners.specs.Totals.{totals, map_of_totals, combined_map}
+use Rattle.redis_combiners.specs.Totals.{map_of_totals, combined_map}
 use Rattle.redis_combiners.proofs.Lists.{all_some_is}
 use Rattle.redis_combiners.proofs.Totals.{or_zero, sum_at, sum_has, same_totals}
 

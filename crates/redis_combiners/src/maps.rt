@@ -185,7 +185,36 @@ fn add_to(total: &mut i128, number: i128) -> Result<(), AllocError>
     }
 }
 
+/// The number of first bytes that all keys share.
+fn common_lead(totals: &[(Vec<u8>, i128)]) -> usize {
+    let Some((first, others)) = totals.split_first() else {
+        return 0;
+    };
+    let mut lead = first.0.as_slice();
+    for other in others {
+        if !other.0.starts_with(lead) {
+            let pairs = lead.iter().zip(&other.0);
+            let count = pairs.take_while(|(x, y)| **x == **y).count();
+            lead = lead.get(..count).unwrap_or(lead);
+        }
+    }
+    lead.len()
+}
+
+/// The eight bytes of a key after the lead, as one number.
+fn number_after(key: &[u8], lead: usize) -> u64 {
+    let mut number = 0_u64;
+    for i in 0..8_usize {
+        let byte = key.get(lead.saturating_add(i)).copied().unwrap_or(0);
+        number = number << 8 | u64::from(byte);
+    }
+    number
+}
+
 /// The total of each key, by ascending key. Sorting puts the totals of one key side by side.
+///
+/// A sort by numbers reads no key. After it, mostly the keys ascend, and the sort by keys only sees
+/// that they do.
 fn by_key(
     alloc: Global,
     mut totals: Vec<(Vec<u8>, i128)>,
@@ -195,11 +224,13 @@ fn by_key(
     ensures ascending { IfOk result (λ list.
         IsStrictlySortedBy (slice_cmp nat_cmp) (keys_among list.items)) }
 {
-    totals.sort_unstable_by(
+    let lead = common_lead(&totals);
+    totals.sort_by_cached_key(|entry: &(Vec<u8>, i128)| number_after(&entry.0, lead))?;
+    totals.sort_by(
         |a: &(Vec<u8>, i128), b: &(Vec<u8>, i128)| -> Ordering
             ensures { result ≡ slice_cmp nat_cmp a.now.0.items b.now.0.items }
         { a.0.cmp(&b.0) },
-    );
+    )?;
     let mut list = Vec::with_capacity(alloc, totals.len())?;
     for (key, total) in totals {
         let last = list.len().saturating_sub(1);

@@ -2,6 +2,7 @@ use Rattle.std.proofs.Common.{◌≡◌, ◌∙◌, ◌-◌, ◌+ℤ◌, ℕ, Li
 use Rattle.std.specs.Int.{w128}
 use Rattle.std.specs.Str.{bytes_eq}
 use Rattle.std.proofs.lemmas.Int.{to_z-of_z}
+use Rattle.std.proofs.lemmas.List.Sorted.{IsPermutation-trans}
 use Rattle.redis_combiners.specs.Entries.{plain_pairs, keys_among, total_among, sum_of_totals}
 use Rattle.redis_combiners.proofs.ByKey.{Rises, Chain, last, chain, sorted_by_key, none_rises, all_left, after, left_after, strictly_from}
 use Rattle.redis_combiners.proofs.Totals.{or_zero, sum_at, same_key}
@@ -9,11 +10,12 @@ use Rattle.redis_combiners.proofs.maps.by_key.Goals as goal
 
 pub loop-key-init : goal.loop-key-init
 loop-key-init c =
-    let sorted = c.sort_unstable_by.new.self.items in
+    let by_number = c.sort_by_cached_key.new.self.items in
+    let sorted = c.sort_by.new.self.items in
     let empty = c.in_ok-list.ensures.items in
-    let moves = c.sort_unstable_by.ensures.permutation in
+    let moves = IsPermutation-trans c.args.totals.items by_number sorted c.sort_by_cached_key.ensures.permutation c.sort_by.ensures.permutation in
     let all : c.into_iter-key-iterator.result.rest.items ≡ sorted = search rules in
-    let up = chain sorted (sorted_by_key sorted c.sort_unstable_by.ensures.sorted (λ a r f' k. search rules)) in (
+    let up = chain sorted (sorted_by_key sorted c.in_ok-sort_by.ensures.sorted (λ a r f' k. search rules)) in (
       tt,
       tt,
       subst (λ z. Rises (keys_among z)) (sym empty) none_rises,
