@@ -5,6 +5,7 @@ pub mod ByKey
 pub mod Combining
 pub mod Arranging
 pub mod Filling
+pub mod Joined
 pub mod JoinedBits
 pub mod KeyNumbers
 pub mod KeyPlaces

@@ -1,5 +1,5 @@
 -- The order of the replies does not count.
-use Rattle.std.proofs.Common.{◌≡◌, ℕ, ◌+◌, List, [], ◌∷◌, sym, ap, ◌∙◌, refl, arith, ◌-◌, ◌^◌, fold, ℤ, pos, ◌+ℤ◌, ◌≤ℤ◌, Option, Some, None, ⊎_elim, subst}
+use Rattle.std.proofs.Common.{◌≡◌, ℕ, ◌+◌, List, [], ◌∷◌, sym, ap, ◌∙◌, refl, arith, fold, ℤ, pos, ◌+ℤ◌, ◌≤ℤ◌, Option, Some, None, ⊎_elim, subst}
 use lib.IntN.{negsuc}
 use Rattle.std.specs.Prelude.{option_map, option_and_then, sum_by}
 use Rattle.std.specs.Int.{int_min}

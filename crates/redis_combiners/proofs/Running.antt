@@ -1,5 +1,5 @@
 -- A running total of replies that are numbers.
-use Rattle.std.proofs.Common.{◌≡◌, ℕ, ◌+◌, ◌<◌, List, ◌∷◌, ◌∙◌, refl, length, get_or, drop, map, fold, ℤ, pos, ◌+ℤ◌, Option, Some, None, arith}
+use Rattle.std.proofs.Common.{◌≡◌, ℕ, ◌+◌, ◌<◌, List, refl, length, get_or, drop, map, fold, ℤ, pos, ◌+ℤ◌, Option, Some, None, arith}
 use Rattle.std.specs.Prelude.{option_map, option_and_then}
 use Rattle.std.proofs.lemmas.Grind.{common_steps}
 use Rattle.resp_core.specs.Reply.{Reply, int_of}

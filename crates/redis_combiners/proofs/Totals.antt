@@ -1,5 +1,5 @@
 -- The total of each key, as the sum of its numbers.
-use Rattle.std.proofs.Common.{◌≡◌, Ordering, length, ℕ, ◌^◌, ◌<◌, ℤ, pos, ◌+ℤ◌, List, [], ◌∷◌, ◌++◌, Bool, true, false, cond, Option, Some, None, refl, ap, sym, subst, ◌∙◌, arith, map, get_or, fold, Vec, Global, FitsSigned, w64}
+use Rattle.std.proofs.Common.{◌≡◌, Ordering, length, ℕ, ◌^◌, ◌<◌, ℤ, pos, ◌+ℤ◌, List, [], ◌∷◌, Bool, true, false, cond, Option, Some, None, refl, ap, sym, subst, ◌∙◌, arith, map, get_or, fold, Vec, Global}
 use Rattle.std.specs.Prelude.{option_map, unwrap_or, is_some, filter, ◌&&◌, ◌||◌, T}
 use Rattle.std.specs.Ordering.{is_eq, is_lt, nat_cmp}
 use Rattle.std.specs.declared.cmp.Ordering.TheVariants.{Less, Equal, Greater}
@@ -14,14 +14,12 @@ use Rattle.std.proofs.lemmas.Map.Text.{is_eq-slice_cmp}
 use Rattle.std.proofs.lemmas.Slice.Eq.{bytes_eq-Decides}
 use Rattle.std.proofs.lemmas.Int.{ints}
 use Rattle.std.proofs.lemmas.List.{length-map, get_or-map}
-use Rattle.std.proofs.lemmas.Grind.{common_steps}
-use Rattle.resp_core.specs.Reply.{Reply, bulk, int, pairs, pairs_of}
+use Rattle.resp_core.specs.Reply.{Reply, pairs, pairs_of}
 use Rattle.cluster_slots.specs.Lists.{all_some}
 use Rattle.redis_combiners.specs.Aggregate.{total}
 use Rattle.redis_combiners.specs.KeyNumbers.{KeyNumber, all_pairs}
-use Rattle.redis_combiners.specs.Entries.{plain_pairs, total_among, sum_of_totals}
+use Rattle.redis_combiners.specs.Entries.{total_among, sum_of_totals}
 use Rattle.redis_combiners.specs.Totals.{has_key, total_of, total_at, ascending_keys, totals, IsListing, reply_pair, combined_map}
-use Rattle.redis_combiners.proofs.Ahead.{before}
 use Rattle.resp_core.proofs.Cases.{by_test}
 
 abbrev order : List ℕ → List ℕ → Ordering
@@ -168,10 +166,6 @@ sum_at_more k q n new old at_k ps whole e same h = grind (arith, by_test, plus-m
 pub same_key : (k q : List ℕ) (es : List (Vec ℕ Global × ℤ)) → bytes_eq k q ≡ true → total_among es k ≡ total_among es q
 same_key k q es e = ap (total_among es) ((bytes_eq-Decides k q).0 e)
 
-pub entries_more : (so_far : List (Reply × Reply)) (key : Vec ℕ Global) (z : ℤ) (rest0 rest : List (Vec ℕ Global × ℤ)) (whole : Option (List (Reply × Reply)))
-    → rest0 ≡ (key, z) ∷ rest → FitsSigned w64 z → before so_far (all_some (map reply_pair (plain_pairs rest0))) ≡ whole → before (so_far ++ (bulk key.items, int z) ∷ []) (all_some (map reply_pair (plain_pairs rest))) ≡ whole
-entries_more so_far key z rest0 rest whole e f h = grind (arith, common_steps)
-
 both : (a b : Bool) → T a → T b → T (a && b)
 both true b p q = q
 both false b p q = p
@@ -204,7 +198,7 @@ find_sorted q (p ∷ ps) h = by_test (bytes_eq p.0 q)
     (λ n. ap (λ b. cond b (Some p.1) (find order q ps)) (same_bytes q p.0 ∙ n) ∙ find_sorted q ps h.1
     ∙ sym (ap (λ b. cond b (Some (p.1 +ℤ or_zero (sum_at q ps))) (sum_at q ps)) n))
 
--- what the entries make is what the replies make
-pub combined_map_is : (rs : List Reply) (ps : List KeyNumber) (es : List (Vec ℕ Global × ℤ)) → all_pairs rs ≡ Some ps → length ps < 2 ^ 63 → IsStrictlySortedBy (slice_cmp nat_cmp) (map (λ e. e.0) (plain_pairs es)) → ((q : List ℕ) → total_among es q ≡ total_at q ps)
-    → combined_map rs ≡ option_map (λ l. pairs (pairs_of l)) (all_some (map reply_pair (plain_pairs es)))
-combined_map_is rs ps es k few s h = grind (arith, lt-ltb, are_totals, rising, find_sorted, sum_at_is)
+-- what the totals make is what the replies make
+pub combined_map_is : (rs : List Reply) (ps es : List KeyNumber) → all_pairs rs ≡ Some ps → length ps < 2 ^ 63 → IsStrictlySortedBy (slice_cmp nat_cmp) (map (λ e. e.0) es) → ((q : List ℕ) → sum_at q es ≡ total_at q ps)
+    → combined_map rs ≡ option_map (λ l. pairs (pairs_of l)) (all_some (map reply_pair es))
+combined_map_is rs ps es k few s h = grind (arith, lt-ltb, are_totals, rising, find_sorted)

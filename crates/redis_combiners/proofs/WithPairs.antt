@@ -1,17 +1,14 @@
 -- The count of pairs and the total of a key, as pairs are added.
-use Rattle.std.proofs.Common.{◌≡◌, ◌<◌, ◌^◌, map, Vec, Global, length, ℕ, ◌+◌, ℤ, ◌+ℤ◌, List, [], ◌∷◌, ◌++◌, Bool, true, false, cond, Option, Some, None, refl, ap, sym, ◌∙◌, arith, length-append}
+use Rattle.std.proofs.Common.{◌≡◌, map, length, ℕ, ◌+◌, ℤ, ◌+ℤ◌, List, [], ◌∷◌, ◌++◌, Bool, true, false, cond, Option, Some, None, refl, ap, sym, ◌∙◌, arith, length-append}
 use Rattle.std.specs.Prelude.{option_map, option_and_then}
-use Rattle.std.specs.Cmp.Lexicographic.{slice_cmp}
-use Rattle.std.specs.List.Sorted.{IsStrictlySortedBy}
-use Rattle.std.specs.Ordering.{nat_cmp}
 use Rattle.std.specs.Str.{bytes_eq}
 use Rattle.std.proofs.lemmas.Int.{ints}
-use Rattle.resp_core.specs.Reply.{Reply, array_of, pairs, pairs_of}
+use Rattle.resp_core.specs.Reply.{Reply, array_of}
 use Rattle.cluster_slots.specs.Lists.{all_some, flatten}
-use Rattle.redis_combiners.specs.Entries.{plain_pairs, total_among, sum_of_totals, with_pairs}
+use Rattle.redis_combiners.specs.Entries.{sum_of_totals, with_pairs}
 use Rattle.redis_combiners.specs.KeyNumbers.{KeyNumber, pairs_among, all_pairs}
-use Rattle.redis_combiners.specs.Totals.{total_at, reply_pair, map_of_totals, combined_map}
-use Rattle.redis_combiners.proofs.Totals.{or_zero, sum_at, sum_at_is, sum_at_more, plus_none, combined_map_is}
+use Rattle.redis_combiners.specs.Totals.{total_at, map_of_totals, combined_map}
+use Rattle.redis_combiners.proofs.Totals.{or_zero, sum_at, sum_at_is, sum_at_more, plus_none}
 
 plus_assoc : (a b c : Option ℤ) → sum_of_totals (sum_of_totals a b) c ≡ sum_of_totals a (sum_of_totals b c)
 plus_assoc None b c = refl
@@ -47,11 +44,11 @@ shown count total = Some (count, total)
 both : (m n : ℕ) (a b : Option ℤ) → m ≡ n → a ≡ b → shown m a ≡ shown n b
 both m n a b e f = ap (λ k. shown k a) e ∙ ap (shown n) f
 
-abbrev count_of : Option (ℕ × Option ℤ) → ℕ
+abbrev pub count_of : Option (ℕ × Option ℤ) → ℕ
 count_of None = 0
 count_of (Some s) = s.0
 
-abbrev total_in : Option (ℕ × Option ℤ) → Option ℤ
+abbrev pub total_in : Option (ℕ × Option ℤ) → Option ℤ
 total_in None = None
 total_in (Some s) = s.1
 
@@ -107,14 +104,3 @@ no_pairs (Some ps) h = absurd (cc)
 
 pub none_combined : (rs : List Reply) → ((q : List ℕ) → None ≡ with_pairs 0 None q (all_pairs rs)) → combined_map rs ≡ None
 none_combined rs h = ap (option_and_then map_of_totals) (no_pairs (all_pairs rs) (h []))
-
-pub combined_from : (rs : List Reply) (count : ℕ) (es fs : List (Vec ℕ Global × ℤ)) (made : Option (List (Reply × Reply))) → ((q : List ℕ) → Some (count, total_among es q) ≡ with_pairs 0 None q (all_pairs rs)) → count < 2 ^ 63
-    → IsStrictlySortedBy (slice_cmp nat_cmp) (map (λ e. e.0) (plain_pairs fs)) → ((q : List ℕ) → total_among fs q ≡ total_among es q) → made ≡ all_some (map reply_pair (plain_pairs fs)) → combined_map rs ≡ option_map (λ l. pairs (pairs_of l)) made
-combined_from rs count es fs made h few ascending same is = by (all_pairs rs) refl h ∙ ap (option_map (λ l. pairs (pairs_of l))) (sym is)
-  where
-    by : (o : Option (List KeyNumber)) → all_pairs rs ≡ o → ((q : List ℕ) → Some (count, total_among es q) ≡ with_pairs 0 None q o) → combined_map rs ≡ option_map (λ l. pairs (pairs_of l)) (all_some (map reply_pair (plain_pairs fs)))
-    by None e all = absurd (let n = all [] in cc)
-    by (Some ps) e all =
-        let counted : count ≡ 0 + length ps = ap count_of (all []) in
-        combined_map_is rs ps fs e (omega (arith, counted, few)) ascending
-        (λ q. same q ∙ ap total_in (all q))

@@ -1,5 +1,5 @@
 -- Pairs and entries of the code, seen as plain data.
-use Rattle.std.specs.Prelude.{ℕ, ◌+◌, ℤ, ◌+ℤ◌, Bool, false, List, length, map, Option, Some, None, option_map, slice_get, Vec}
+use Rattle.std.specs.Prelude.{ℕ, ◌+◌, ℤ, ◌+ℤ◌, Bool, false, List, [], ◌∷◌, length, map, Option, Some, None, option_map, slice_get, if◌then◌else◌, Vec}
 use Rattle.std.specs.Global.{Global}
 use Rattle.std.specs.Str.{bytes_eq}
 use Rattle.redis_combiners.specs.KeyNumbers.{KeyNumber}
@@ -8,10 +8,6 @@ use Rattle.redis_combiners.specs.Totals.{total_at}
 -- pairs with the bytes of their keys
 abbrev pub plain_pairs : List (Vec ℕ Global × ℤ) → List KeyNumber
 plain_pairs entries = map (λ entry. (entry.0.items, entry.1)) entries
-
--- the keys of the pairs
-abbrev pub keys_among : List (Vec ℕ Global × ℤ) → List (List ℕ)
-keys_among entries = map (λ pair. pair.0) (plain_pairs entries)
 
 -- the total of the key, if an entry has it
 abbrev pub total_among : List (Vec ℕ Global × ℤ) → List ℕ → Option ℤ
@@ -36,3 +32,15 @@ sum_of_totals (Some a) (Some b) = Some (a +ℤ b)
 abbrev pub with_pairs : ℕ → Option ℤ → List ℕ → Option (List KeyNumber) → Option (ℕ × Option ℤ)
 with_pairs count so_far key added =
     option_map (λ pairs. (count + length pairs, sum_of_totals so_far (total_at key pairs))) added
+
+-- the pairs with a key and a total before them, where pairs of one key side by side are one
+abbrev pub joined_after : List ℕ → ℤ → List KeyNumber → List KeyNumber
+joined_after key total [] = (key, total) ∷ []
+joined_after key total (pair ∷ pairs) =
+    if bytes_eq pair.0 key then joined_after key (total +ℤ pair.1) pairs
+    else (key, total) ∷ joined_after pair.0 pair.1 pairs
+
+-- the pairs, where pairs of one key side by side are one with their sum
+abbrev pub joined : List KeyNumber → List KeyNumber
+joined [] = []
+joined (pair ∷ pairs) = joined_after pair.0 pair.1 pairs

@@ -2,13 +2,13 @@ ghost use Rattle.std.specs.Prelude.{◌≡◌, ◌++◌, ◌∷◌, [], ◌+◌,
 ghost use Rattle.std.specs.Str.{bytes_eq};
 ghost use Rattle.std.specs.Ordering.{nat_cmp};
 ghost use Rattle.std.specs.Cmp.Lexicographic.{slice_cmp};
-ghost use Rattle.std.specs.List.Sorted.{IsStrictlySortedBy};
+ghost use Rattle.std.specs.List.Sorted.{IsSortedByKey};
 ghost use Rattle.resp_core.specs.ErrorParts.{out_of_memory};
-ghost use Rattle.resp_core.specs.Reply.{Reply, bulk, int};
+ghost use Rattle.resp_core.specs.Reply.{Reply};
 ghost use Rattle.resp_core.specs.View.{view, view_pair};
 ghost use Rattle.resp_core.specs.declared.error.ErrorKind.TheVariants.{UnexpectedReturnType};
 ghost use Rattle.cluster_slots.specs.Lists.{all_some};
-ghost use Rattle.redis_combiners.specs.Entries.{plain_pairs, keys_among, total_among, has_key_at, with_pairs};
+ghost use Rattle.redis_combiners.specs.Entries.{plain_pairs, total_among, has_key_at, with_pairs, joined};
 ghost use Rattle.redis_combiners.specs.KeyNumbers.{KeyNumber, pairs_among, all_pairs};
 ghost use Rattle.redis_combiners.specs.Totals.{totals, IsListing, reply_pair, combined_map};
 
@@ -52,7 +52,7 @@ pub fn combine_map_results(alloc: Global, values: Vec<Value>) -> RedisResult<Val
             "a reply is not an array of keys and numbers in turn",
         )));
     };
-    let ascending = by_key(alloc, sums.totals)?;
+    let ascending = by_key(sums.totals)?;
     match to_entries(alloc, ascending)? {
         Some(list) => Ok(Value::Map(list)),
         None => Err(RedisError::from((
@@ -143,18 +143,15 @@ fn add_number(
     key: Vec<u8>,
     number: i128,
 ) -> Result<bool, AllocError>
-    ensures totals { OnOk result ((q : List ℕ)
+    ensures { OnOk result ((q : List ℕ)
         → total_among totals.new.items q
         ≡ cond (bytes_eq key.items q)
         (Some (unwrap_or (total_among totals.old.items key.items) (pos 0) +ℤ number))
         (total_among totals.old.items q)) }
-    ensures found { IfOk result (λ found. found ≡ has_key_at totals.old.items place key.items) }
-    ensures keys { OnOk result (keys_among totals.new.items
-        ≡ (if has_key_at totals.old.items place key.items then keys_among totals.old.items
-        else keys_among totals.old.items ++ key.items ∷ [])) }
 {
     if has_key(totals, place, &key) {
-        add_to(&mut totals[place].1, number)?;
+        let total = &mut totals[place].1;
+        *total = sum_of(*total, number)?;
         Ok(true)
     } else {
         totals.push((key, number))?;
@@ -172,17 +169,11 @@ fn has_key(totals: &Vec<(Vec<u8>, i128)>, place: usize, key: &Vec<u8>) -> bool
     }
 }
 
-/// Adds a number to a total, which leaves the 128 bits only after more pairs than memory holds.
-fn add_to(total: &mut i128, number: i128) -> Result<(), AllocError>
-    ensures { OnOk result (total.new ≡ total.old +ℤ number) }
+/// The sum of two totals, which leaves the 128 bits only after more pairs than memory holds.
+fn sum_of(total: i128, number: i128) -> Result<i128, AllocError>
+    ensures { IfOk result (λ sum. sum ≡ total +ℤ number) }
 {
-    match total.checked_add(number) {
-        Some(sum) => {
-            *total = sum;
-            Ok(())
-        }
-        None => Err(AllocError),
-    }
+    total.checked_add(number).ok_or(AllocError)
 }
 
 /// The number of first bytes that all keys share.
@@ -211,18 +202,14 @@ fn number_after(key: &[u8], lead: usize) -> u64 {
     number
 }
 
-/// The total of each key, by ascending key. Sorting puts the totals of one key side by side.
+/// The totals by ascending key.
 ///
 /// A sort by numbers reads no key. After it, mostly the keys ascend, and the sort by keys only sees
 /// that they do.
-fn by_key(
-    alloc: Global,
-    mut totals: Vec<(Vec<u8>, i128)>,
-) -> Result<Vec<(Vec<u8>, i128)>, AllocError>
-    ensures same { IfOk result (λ list. (q : List ℕ)
-        → total_among list.items q ≡ total_among totals.items q) }
-    ensures ascending { IfOk result (λ list.
-        IsStrictlySortedBy (slice_cmp nat_cmp) (keys_among list.items)) }
+fn by_key(mut totals: Vec<(Vec<u8>, i128)>) -> Result<Vec<(Vec<u8>, i128)>, AllocError>
+    ensures same { IfOk result (λ list. IsPermutation totals.items list.items) }
+    ensures ascending { IfOk result (λ list. IsSortedByKey (λ entry. entry.0.items)
+        (slice_cmp nat_cmp) list.items) }
 {
     let lead = common_lead(&totals);
     totals.sort_by_cached_key(|entry: &(Vec<u8>, i128)| number_after(&entry.0, lead))?;
@@ -231,34 +218,46 @@ fn by_key(
             ensures { result ≡ slice_cmp nat_cmp a.now.0.items b.now.0.items }
         { a.0.cmp(&b.0) },
     )?;
-    let mut list = Vec::with_capacity(alloc, totals.len())?;
-    for (key, total) in totals {
-        let last = list.len().saturating_sub(1);
-        add_number(&mut list, last, key, total)?;
-    }
-    Ok(list)
+    Ok(totals)
 }
 
-/// The totals as pairs of replies, if each fits in an i64.
+/// The totals as pairs of replies, if each fits in an i64. Totals of one key that are side by side
+/// are one.
 fn to_entries(
     alloc: Global,
     totals: Vec<(Vec<u8>, i128)>,
 ) -> Result<Option<Vec<(Value, Value)>>, AllocError>
     ensures { IfOk result (λ list. option_map (λ v. map view_pair v.items) list
-        ≡ all_some (map reply_pair (plain_pairs totals.items))) }
+        ≡ all_some (map reply_pair (joined (plain_pairs totals.items)))) }
 {
     let mut list = Vec::with_capacity(alloc, totals.len())?;
-    for (key, total) in totals {
-        let Ok(n) = i64::try_from(total) else {
+    let mut rest = totals.into_iter();
+    let Some((mut key, mut total)) = rest.next() else {
+        return Ok(Some(list));
+    };
+    for (next, number) in rest {
+        if next == key {
+            total = sum_of(total, number)?;
+            continue;
+        }
+        if !push_pair(&mut list, key, total)? {
             return Ok(None);
-        };
-        list.push(as_pair(key, n))?;
+        }
+        key = next;
+        total = number;
     }
-    Ok(Some(list))
+    Ok(push_pair(&mut list, key, total)?.then_some(list))
 }
 
-fn as_pair(key: Vec<u8>, n: i64) -> (Value, Value)
-    ensures { view_pair result ≡ (bulk key.items, int n) }
+/// Adds a key and its total as replies, if the total fits in an i64.
+fn push_pair(list: &mut Vec<(Value, Value)>, key: Vec<u8>, total: i128) -> Result<bool, AllocError>
+    ensures { IfOk result (λ fits.
+        option_map (λ pair. map view_pair list.old.items ++ pair ∷ []) (reply_pair (key.items, total))
+        ≡ (if fits then Some (map view_pair list.new.items) else None)) }
 {
-    (Value::BulkString(key), Value::Int(n))
+    let Ok(n) = i64::try_from(total) else {
+        return Ok(false);
+    };
+    list.push((Value::BulkString(key), Value::Int(n)))?;
+    Ok(true)
 }

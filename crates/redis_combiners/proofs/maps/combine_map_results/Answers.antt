@@ -5,7 +5,8 @@ use Rattle.resp_core.specs.declared.value.Value.{Map, the_lemmas}
 use Rattle.redis_combiners.specs.Entries.{with_pairs}
 use Rattle.redis_combiners.specs.KeyNumbers.{all_pairs}
 use Rattle.redis_combiners.proofs.Totals.{listing}
-use Rattle.redis_combiners.proofs.WithPairs.{none_combined, combined_from}
+use Rattle.redis_combiners.proofs.Joined.{combined_from}
+use Rattle.redis_combiners.proofs.WithPairs.{none_combined}
 use Rattle.redis_combiners.proofs.maps.combine_map_results.Goals as goal
 
 pub returns-in_default-clause-answer : goal.returns-in_default-clause-answer
@@ -20,14 +21,14 @@ returns-in-Some-2-clause-answer c =
     let list = c.in-Some-2.list in
     let seen : view (Map list) ≡ pairs (pairs_of (map view_pair list.items)) = search (rules, the_lemmas) in
     combined_from (map view c.args.values.items) sums.pair_count sums.totals.items c.in_ok-ascending.ascending.items (Some (map view_pair list.items))
-    (λ q. rw c.in-Some.is at c.in_ok-sums.ensures.totals q) (rw c.in-Some.is at c.in_ok-sums.ensures.few) c.in_ok-ascending.ensures.ascending c.in_ok-ascending.ensures.same (rw c.in-Some-2.is at c.in_ok-list.ensures)
+    (λ q. rw c.in-Some.is at c.in_ok-sums.ensures.totals q) (rw c.in-Some.is at c.in_ok-sums.ensures.few) c.in_ok-ascending.ensures.same c.in_ok-ascending.ensures.ascending (rw c.in-Some-2.is at c.in_ok-list.ensures)
     ∙ ap Some (sym seen)
 
 pub returns-in-None-clause-answer : goal.returns-in-None-clause-answer
 returns-in-None-clause-answer c =
     let sums = c.in-Some.sums in
     let refused = combined_from (map view c.args.values.items) sums.pair_count sums.totals.items c.in_ok-ascending.ascending.items None
-    (λ q. rw c.in-Some.is at c.in_ok-sums.ensures.totals q) (rw c.in-Some.is at c.in_ok-sums.ensures.few) c.in_ok-ascending.ensures.ascending c.in_ok-ascending.ensures.same (rw c.in-None.is at c.in_ok-list.ensures) in
+    (λ q. rw c.in-Some.is at c.in_ok-sums.ensures.totals q) (rw c.in-Some.is at c.in_ok-sums.ensures.few) c.in_ok-ascending.ensures.same c.in_ok-ascending.ensures.ascending (rw c.in-None.is at c.in_ok-list.ensures) in
     inr (refused, ap (λ e. e.kind) c.from-in-None.ensures)
 
 pub returns-in_err-sums-clause-listing : goal.returns-in_err-sums-clause-listing

@@ -1,28 +1,38 @@
-use Rattle.std.proofs.Common.{◌≡◌, ap, sym, subst, ◌∙◌, map, List, [], ◌∷◌, ◌++◌, Option, rules, FitsSigned, w64, to_z, of_z}
+use Rattle.std.proofs.Common.{◌≡◌, ◌∙◌, ◌+ℤ◌, true, false, ap, map, rules, FitsSigned, to_z}
 use Rattle.std.specs.Int.{w128}
+use Rattle.std.specs.Str.{bytes_eq}
 use Rattle.std.proofs.lemmas.Int.{to_z-of_z}
-use Rattle.resp_core.specs.Reply.{Reply, bulk, int}
 use Rattle.resp_core.specs.View.{view_pair}
-use Rattle.cluster_slots.specs.Lists.{all_some}
-use Rattle.redis_combiners.specs.Entries.{plain_pairs}
-use Rattle.redis_combiners.specs.Totals.{reply_pair}
-use Rattle.redis_combiners.proofs.Ahead.{before}
-use Rattle.redis_combiners.proofs.KeyNumbers.{viewed_push}
-use Rattle.redis_combiners.proofs.Totals.{entries_more}
+use Rattle.redis_combiners.proofs.Joined.{pairs_from, same_key_next, other_key_next}
 use Rattle.redis_combiners.proofs.maps.to_entries.Goals as goal
 
-pub loop-key-preserved : goal.loop-key-preserved
-loop-key-preserved c =
-    let i = c.loop-key.invariant in
-    let key = c.in-Some.key in
-    let z = c.in-Some.total in
-    let so_far : List (Reply × Reply) = map view_pair c.loop-key.list.items in
-    let whole : Option (List (Reply × Reply)) = all_some (map reply_pair (plain_pairs c.args.totals.items)) in
-    let wide : FitsSigned w128 z = search rules in
-    let same : to_z w128 (of_z w128 z) ≡ z = to_z-of_z w128 z wide in
-    let fits : FitsSigned w64 z = subst (λ y. FitsSigned w64 y) same c.in-Ok.ensures.0 in
-    let short : FitsSigned w64 c.in-Ok.n = subst (λ y. FitsSigned w64 y) (sym c.in-Ok.ensures.1) c.in-Ok.ensures.0 in
-    let more : before (so_far ++ (bulk key.items, int z) ∷ []) (all_some (map reply_pair (plain_pairs c.next.new.self.rest.items))) ≡ whole = entries_more so_far key z c.loop-key.key-iterator.rest.items c.next.new.self.rest.items whole c.in-Some.ensures.steps.0 fits i.2 in
-    let pair : view_pair c.as_pair.result ≡ (bulk key.items, int z) = c.as_pair.ensures ∙ ap (λ y. (bulk key.items, int y)) (to_z-of_z w64 c.in-Ok.n short ∙ c.in-Ok.ensures.1 ∙ same) in
-    let pushed : map view_pair c.push.new.self.items ≡ so_far ++ (bulk key.items, int z) ∷ [] = viewed_push c.push.new.self.items c.loop-key.list.items c.as_pair.result (bulk key.items, int z) c.in_ok-push.ensures.items pair in
-    (tt, tt, subst (λ xs. before xs (all_some (map reply_pair (plain_pairs c.next.new.self.rest.items))) ≡ whole) (sym pushed) more)
+pub loop-next-preserved-then-eq : goal.loop-next-preserved-then-eq
+loop-next-preserved-then-eq c =
+    let so_far = map view_pair c.loop-next.list.items in
+    let total = to_z w128 c.loop-next.total-bits in
+    let sum = c.in_ok-total.total in
+    let rest = c.next-in-loop-next.new.self.rest.items in
+    let wide : FitsSigned w128 sum = search rules in
+    let more : sum ≡ total +ℤ c.in-Some-2.number = search rules in
+    let same : bytes_eq c.in-Some-2.next.items c.loop-next.key.items ≡ true = search rules in (
+      tt,
+      tt,
+      ap (λ z. pairs_from so_far c.loop-next.key.items z rest) (to_z-of_z w128 sum wide)
+          ∙ same_key_next so_far c.loop-next.key.items c.in-Some-2.next total c.in-Some-2.number sum c.loop-next.next-iterator.rest.items rest c.in-Some-2.ensures.steps.0 same more
+          ∙ c.loop-next.invariant.2,
+    )
+
+pub loop-next-preserved : goal.loop-next-preserved
+loop-next-preserved c =
+    let so_far = map view_pair c.loop-next.list.items in
+    let total = to_z w128 c.loop-next.total-bits in
+    let number = c.in-Some-2.number in
+    let rest = c.next-in-loop-next.new.self.rest.items in
+    let wide : FitsSigned w128 number = search rules in
+    let apart : bytes_eq c.in-Some-2.next.items c.loop-next.key.items ≡ false = search rules in (
+      tt,
+      tt,
+      ap (λ z. pairs_from (map view_pair c.push_pair.new.list.items) c.in-Some-2.next.items z rest) (to_z-of_z w128 number wide)
+          ∙ other_key_next so_far (map view_pair c.push_pair.new.list.items) c.loop-next.key.items c.in-Some-2.next total number c.loop-next.next-iterator.rest.items rest c.in-Some-2.ensures.steps.0 apart (search rules)
+          ∙ c.loop-next.invariant.2,
+    )

@@ -1,0 +1,108 @@
+-- Pairs of one key side by side that are made one.
+use Rattle.std.proofs.Common.{◌≡◌, ◌<◌, ◌^◌, ℕ, ℤ, ◌+ℤ◌, ◌+◌, List, [], ◌∷◌, length, map, Bool, true, false, cond, ◌++◌, Option, Some, None, refl, ap, sym, subst, ◌∙◌, arith, Vec, Global}
+use Rattle.std.specs.declared.cmp.Ordering.TheVariants.{Less}
+use Rattle.std.specs.Cmp.Lexicographic.{nat_list_cmp_total}
+use Rattle.std.specs.List.{AllByRecursion}
+use Rattle.std.specs.List.Sorted.{IsPermutation, IsSortedByKey, IsStrictlySortedBy}
+use Rattle.std.specs.Str.{bytes_eq}
+use Rattle.std.proofs.lemmas.Int.{ints}
+use Rattle.std.proofs.lemmas.Slice.Eq.{bytes_eq-Decides}
+use Rattle.std.specs.Prelude.{option_map}
+use Rattle.resp_core.specs.Reply.{Reply, pairs, pairs_of}
+use Rattle.cluster_slots.specs.Lists.{all_some}
+use Rattle.resp_core.proofs.Cases.{by_test}
+use Rattle.resp_core.proofs.SoFar.{before, before-more}
+use Rattle.redis_combiners.specs.Entries.{plain_pairs, total_among, with_pairs, joined, joined_after}
+use Rattle.redis_combiners.specs.KeyNumbers.{KeyNumber, all_pairs}
+use Rattle.redis_combiners.specs.Totals.{reply_pair, combined_map}
+use Rattle.redis_combiners.proofs.ByKey.{Entry, key_of, order, Chain, chain, less_from, all_moved}
+use Rattle.redis_combiners.proofs.Totals.{or_zero, sum_at, combined_map_is}
+use Rattle.redis_combiners.proofs.WithPairs.{count_of, total_in}
+
+sum_step : (b : Bool) (t n : ℤ) (s : Option ℤ) → cond b (Some ((t +ℤ n) +ℤ or_zero s)) s ≡ cond b (Some (t +ℤ or_zero (cond b (Some (n +ℤ or_zero s)) s))) (cond b (Some (n +ℤ or_zero s)) s)
+sum_step true t n s = ap Some (omega (arith, ints))
+sum_step false t n s = refl
+
+sum_after : (q k : List ℕ) (t : ℤ) (ps : List KeyNumber) → sum_at q (joined_after k t ps) ≡ sum_at q ((k, t) ∷ ps)
+sum_after q k t [] = refl
+sum_after q k t (p ∷ ps) = by_test (bytes_eq p.0 k)
+    (λ same. ap (λ b. sum_at q (cond b (joined_after k (t +ℤ p.1) ps) ((k, t) ∷ joined_after p.0 p.1 ps))) same
+    ∙ sum_after q k (t +ℤ p.1) ps
+    ∙ sum_step (bytes_eq k q) t p.1 (sum_at q ps)
+    ∙ ap (λ j. sum_at q ((k, t) ∷ (j, p.1) ∷ ps)) (sym ((bytes_eq-Decides p.0 k).0 same)))
+    (λ apart. ap (λ b. sum_at q (cond b (joined_after k (t +ℤ p.1) ps) ((k, t) ∷ joined_after p.0 p.1 ps))) apart
+    ∙ ap (λ s. cond (bytes_eq k q) (Some (t +ℤ or_zero s)) s) (sum_after q p.0 p.1 ps))
+
+-- each key has the same total
+pub sum_joined : (q : List ℕ) (ps : List KeyNumber) → sum_at q (joined ps) ≡ sum_at q ps
+sum_joined q [] = refl
+sum_joined q (p ∷ ps) = sum_after q p.0 p.1 ps
+
+abbrev keys_after : List ℕ → ℤ → List Entry → List (List ℕ)
+keys_after k t es = map (λ pair. pair.0) (joined_after k t (plain_pairs es))
+
+-- a key that follows another, as an equal one or a greater one
+abbrev AtKey : (List (List ℕ) → Type 0) → List ℕ → ℤ → Entry → List Entry → Bool → Type 0
+AtKey P k t e es b = P (map (λ pair. pair.0) (cond b (joined_after k (t +ℤ e.1) (plain_pairs es)) ((k, t) ∷ joined_after (key_of e) e.1 (plain_pairs es))))
+
+above : (j k : List ℕ) (t : ℤ) (es : List Entry) → order j k ≡ Less → Chain (Some k) es → AllByRecursion (λ y. order j y ≡ Less) (keys_after k t es)
+above j k t [] less up = (less, tt)
+above j k t (e ∷ es) less up = by_test (bytes_eq (key_of e) k)
+    (λ same. subst (AtKey (AllByRecursion (λ y. order j y ≡ Less)) k t e es) (sym same)
+    (above j k (t +ℤ e.1) es less (subst (λ z. Chain (Some z) es) ((bytes_eq-Decides (key_of e) k).0 same) up.1)))
+    (λ apart. subst (AtKey (AllByRecursion (λ y. order j y ≡ Less)) k t e es) (sym apart)
+    (less, above j (key_of e) e.1 es (nat_list_cmp_total.trans j k (key_of e) less (less_from k (key_of e) up.0 apart)) up.1))
+
+strictly_after : (k : List ℕ) (t : ℤ) (es : List Entry) → Chain (Some k) es → IsStrictlySortedBy order (keys_after k t es)
+unfolding IsStrictlySortedBy
+strictly_after k t [] up = (tt, tt)
+strictly_after k t (e ∷ es) up = by_test (bytes_eq (key_of e) k)
+    (λ same. subst (AtKey (IsStrictlySortedBy order) k t e es) (sym same)
+    (strictly_after k (t +ℤ e.1) es (subst (λ z. Chain (Some z) es) ((bytes_eq-Decides (key_of e) k).0 same) up.1)))
+    (λ apart. subst (AtKey (IsStrictlySortedBy order) k t e es) (sym apart)
+    (above k (key_of e) e.1 es (less_from k (key_of e) up.0 apart) up.1, strictly_after (key_of e) e.1 es up.1))
+
+strictly_joined : (es : List Entry) → IsSortedByKey key_of order es → IsStrictlySortedBy order (map (λ pair. pair.0) (joined (plain_pairs es)))
+unfolding IsStrictlySortedBy
+strictly_joined [] up = tt
+strictly_joined (e ∷ es) up = strictly_after (key_of e) e.1 es (chain (e ∷ es) up).1
+
+-- the pairs of replies so far, before those of a key, its total so far and the rest
+abbrev pub pairs_from : List (Reply × Reply) → List ℕ → ℤ → List Entry → Option (List (Reply × Reply))
+pairs_from so_far key total rest = before so_far (all_some (map reply_pair (joined_after key total (plain_pairs rest))))
+
+abbrev AtNext : List (Reply × Reply) → List ℕ → ℤ → Entry → List Entry → Bool → Option (List (Reply × Reply))
+AtNext so_far key total e rest b = before so_far (all_some (map reply_pair (cond b (joined_after key (total +ℤ e.1) (plain_pairs rest)) ((key, total) ∷ joined_after (key_of e) e.1 (plain_pairs rest)))))
+
+pub same_key_next : (so_far : List (Reply × Reply)) (key : List ℕ) (next : Vec ℕ Global) (total n sum : ℤ) (left rest : List Entry) → left ≡ (next, n) ∷ rest → bytes_eq next.items key ≡ true → sum ≡ total +ℤ n
+    → pairs_from so_far key sum rest ≡ pairs_from so_far key total left
+same_key_next so_far key next total n sum left rest is same more =
+    ap (λ z. pairs_from so_far key z rest) more
+    ∙ ap (AtNext so_far key total (next, n) rest) (sym same)
+    ∙ ap (pairs_from so_far key total) (sym is)
+
+pub other_key_next : (so_far more : List (Reply × Reply)) (key : List ℕ) (next : Vec ℕ Global) (total n : ℤ) (left rest : List Entry) → left ≡ (next, n) ∷ rest → bytes_eq next.items key ≡ false → option_map (λ pair. so_far ++ pair ∷ []) (reply_pair (key, total)) ≡ Some more
+    → pairs_from more next.items n rest ≡ pairs_from so_far key total left
+other_key_next so_far more key next total n left rest is apart pushed =
+    by (reply_pair (key, total)) pushed
+    ∙ ap (AtNext so_far key total (next, n) rest) (sym apart)
+    ∙ ap (pairs_from so_far key total) (sym is)
+  where
+    after : Option (List (Reply × Reply))
+    after = all_some (map reply_pair (joined_after next.items n (plain_pairs rest)))
+
+    by : (o : Option (Reply × Reply)) → option_map (λ pair. so_far ++ pair ∷ []) o ≡ Some more → before more after ≡ before so_far (all_some (o ∷ map reply_pair (joined_after next.items n (plain_pairs rest))))
+    by None h = absurd (cc)
+    by (Some pair) h = let same : more ≡ so_far ++ pair ∷ [] = cc in ap (λ xs. before xs after) same ∙ sym (before-more so_far pair after)
+
+-- what the totals in order make is what the replies make
+pub combined_from : (rs : List Reply) (count : ℕ) (es fs : List Entry) (made : Option (List (Reply × Reply))) → ((q : List ℕ) → Some (count, total_among es q) ≡ with_pairs 0 None q (all_pairs rs)) → count < 2 ^ 63
+    → IsPermutation es fs → IsSortedByKey key_of order fs → made ≡ all_some (map reply_pair (joined (plain_pairs fs))) → combined_map rs ≡ option_map (λ l. pairs (pairs_of l)) made
+combined_from rs count es fs made h few moves up is = by (all_pairs rs) refl h ∙ ap (option_map (λ l. pairs (pairs_of l))) (sym is)
+  where
+    by : (o : Option (List KeyNumber)) → all_pairs rs ≡ o → ((q : List ℕ) → Some (count, total_among es q) ≡ with_pairs 0 None q o) → combined_map rs ≡ option_map (λ l. pairs (pairs_of l)) (all_some (map reply_pair (joined (plain_pairs fs))))
+    by None e all = absurd (let n = all [] in cc)
+    by (Some ps) e all =
+        let counted : count ≡ 0 + length ps = ap count_of (all []) in
+        combined_map_is rs ps (joined (plain_pairs fs)) e (omega (arith, counted, few)) (strictly_joined fs up)
+        (λ q. sum_joined q (plain_pairs fs) ∙ all_moved es fs moves q ∙ ap total_in (all q))
