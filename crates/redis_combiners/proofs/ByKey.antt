@@ -15,11 +15,10 @@ use Rattle.std.proofs.lemmas.Map.Text.{is_eq-slice_cmp}
 use Rattle.std.proofs.lemmas.Option.{slice_get-map}
 use Rattle.std.proofs.lemmas.Slice.Eq.{bytes_eq-Decides}
 use Rattle.resp_core.proofs.Cases.{by_test}
-use Rattle.redis_combiners.specs.Entries.{plain_pairs, total_among, entry_has, has_key_at, sum_of_totals}
+use Rattle.redis_combiners.specs.Entries.{plain_pairs, total_among, entry_has, has_key_at}
 use Rattle.redis_combiners.specs.KeyNumbers.{KeyNumber}
-use Rattle.redis_combiners.proofs.Totals.{or_zero, sum_at, sum_at_is, sum_at_more, plus_none}
+use Rattle.redis_combiners.proofs.Totals.{sum_of_totals, or_zero, sum_at, sum_at_is, sum_at_more, plus_none}
 use Rattle.redis_combiners.proofs.TotalOrders.{sum_permuted}
-use Rattle.redis_combiners.proofs.WithPairs.{sum_at-append}
 
 abbrev pub order : List ℕ → List ℕ → Ordering
 order = slice_cmp nat_cmp
@@ -46,6 +45,21 @@ less_from x y up apart = by (order x y) refl
     by Less e = e
     by Equal e = absurd (true≢false (ap is_eq (sym e) ∙ is_eq-slice_cmp x y ∙ nat_list_eq_equiv.symm x y ∙ apart))
     by Greater e = absurd (true≢false (ap is_lt (sym (nat_list_cmp_total.antisymm y x ∙ ap ordering_reverse e)) ∙ up))
+
+-- the total of a key over two lists
+sum_at-append : (q : List ℕ) (ps qs : List KeyNumber) → sum_at q (ps ++ qs) ≡ sum_of_totals (sum_at q ps) (sum_at q qs)
+sum_at-append q [] qs = refl
+sum_at-append q (p ∷ ps) qs = more (bytes_eq p.0 q) (sum_at q ps) (sum_at q qs) (sum_at q (ps ++ qs)) (sum_at-append q ps qs)
+  where
+    first : (s t : Option ℤ) → Some (p.1 +ℤ or_zero (sum_of_totals s t)) ≡ sum_of_totals (Some (p.1 +ℤ or_zero s)) t
+    first None None = refl
+    first None (Some y) = ap Some (omega (arith, ints))
+    first (Some x) None = refl
+    first (Some x) (Some y) = ap Some (omega (arith, ints))
+
+    more : (b : Bool) (s t u : Option ℤ) → u ≡ sum_of_totals s t → cond b (Some (p.1 +ℤ or_zero u)) u ≡ sum_of_totals (cond b (Some (p.1 +ℤ or_zero s)) s) t
+    more true s t u e = ap (λ o. Some (p.1 +ℤ or_zero o)) e ∙ first s t
+    more false s t u e = e
 
 -- a number added to a total
 
@@ -98,7 +112,7 @@ plain-set [] i e = refl
 plain-set (x ∷ es) zero e = refl
 plain-set (x ∷ es) (suc i) e = ap (λ z. (key_of x, x.1) ∷ z) (plain-set es i e)
 
-plain-push : (es : List Entry) (e : Entry) → plain_pairs (es ++ e ∷ []) ≡ plain_pairs es ++ (key_of e, e.1) ∷ []
+pub plain-push : (es : List Entry) (e : Entry) → plain_pairs (es ++ e ∷ []) ≡ plain_pairs es ++ (key_of e, e.1) ∷ []
 plain-push [] e = refl
 plain-push (x ∷ es) e = ap (λ z. (key_of x, x.1) ∷ z) (plain-push es e)
 

@@ -1,5 +1,5 @@
 -- Pairs of one key side by side that are made one.
-use Rattle.std.proofs.Common.{◌≡◌, ◌<◌, ◌^◌, ℕ, ℤ, ◌+ℤ◌, ◌+◌, List, [], ◌∷◌, length, map, Bool, true, false, cond, ◌++◌, Option, Some, None, refl, ap, sym, subst, ◌∙◌, arith, Vec, Global}
+use Rattle.std.proofs.Common.{◌≡◌, ◌<◌, ◌^◌, ℕ, suc, ℤ, ◌+ℤ◌, List, [], ◌∷◌, length, map, Bool, true, false, cond, ◌++◌, Option, Some, None, refl, ap, sym, subst, ◌∙◌, arith, Vec, Global}
 use Rattle.std.specs.declared.cmp.Ordering.TheVariants.{Less}
 use Rattle.std.specs.Cmp.Lexicographic.{nat_list_cmp_total}
 use Rattle.std.specs.List.{AllByRecursion}
@@ -12,12 +12,11 @@ use Rattle.resp_core.specs.Reply.{Reply, pairs, pairs_of}
 use Rattle.cluster_slots.specs.Lists.{all_some}
 use Rattle.resp_core.proofs.Cases.{by_test}
 use Rattle.resp_core.proofs.SoFar.{before, before-more}
-use Rattle.redis_combiners.specs.Entries.{plain_pairs, total_among, with_pairs, joined, joined_after}
+use Rattle.redis_combiners.specs.Entries.{plain_pairs, total_among, joined, joined_after}
 use Rattle.redis_combiners.specs.KeyNumbers.{KeyNumber, all_pairs}
 use Rattle.redis_combiners.specs.Totals.{reply_pair, combined_map}
 use Rattle.redis_combiners.proofs.ByKey.{Entry, key_of, order, Chain, chain, less_from, all_moved}
 use Rattle.redis_combiners.proofs.Totals.{or_zero, sum_at, combined_map_is}
-use Rattle.redis_combiners.proofs.WithPairs.{count_of, total_in}
 
 sum_step : (b : Bool) (t n : ℤ) (s : Option ℤ) → cond b (Some ((t +ℤ n) +ℤ or_zero s)) s ≡ cond b (Some (t +ℤ or_zero (cond b (Some (n +ℤ or_zero s)) s))) (cond b (Some (n +ℤ or_zero s)) s)
 sum_step true t n s = ap Some (omega (arith, ints))
@@ -95,14 +94,14 @@ other_key_next so_far more key next total n left rest is apart pushed =
     by None h = absurd (cc)
     by (Some pair) h = let same : more ≡ so_far ++ pair ∷ [] = cc in ap (λ xs. before xs after) same ∙ sym (before-more so_far pair after)
 
+length-plain : (es : List Entry) → length (plain_pairs es) ≡ length es
+length-plain [] = refl
+length-plain (e ∷ es) = ap suc (length-plain es)
+
 -- what the totals in order make is what the replies make
-pub combined_from : (rs : List Reply) (count : ℕ) (es fs : List Entry) (made : Option (List (Reply × Reply))) → ((q : List ℕ) → Some (count, total_among es q) ≡ with_pairs 0 None q (all_pairs rs)) → count < 2 ^ 63
+pub combined_from : (rs : List Reply) (ps es fs : List Entry) (made : Option (List (Reply × Reply))) → Some (plain_pairs ps) ≡ all_pairs rs → length ps < 2 ^ 63 → ((q : List ℕ) → total_among es q ≡ total_among ps q)
     → IsPermutation es fs → IsSortedByKey key_of order fs → made ≡ all_some (map reply_pair (joined (plain_pairs fs))) → combined_map rs ≡ option_map (λ l. pairs (pairs_of l)) made
-combined_from rs count es fs made h few moves up is = by (all_pairs rs) refl h ∙ ap (option_map (λ l. pairs (pairs_of l))) (sym is)
-  where
-    by : (o : Option (List KeyNumber)) → all_pairs rs ≡ o → ((q : List ℕ) → Some (count, total_among es q) ≡ with_pairs 0 None q o) → combined_map rs ≡ option_map (λ l. pairs (pairs_of l)) (all_some (map reply_pair (joined (plain_pairs fs))))
-    by None e all = absurd (let n = all [] in cc)
-    by (Some ps) e all =
-        let counted : count ≡ 0 + length ps = ap count_of (all []) in
-        combined_map_is rs ps (joined (plain_pairs fs)) e (omega (arith, counted, few)) (strictly_joined fs up)
-        (λ q. sum_joined q (plain_pairs fs) ∙ all_moved es fs moves q ∙ ap total_in (all q))
+combined_from rs ps es fs made all few same moves up is =
+    combined_map_is rs (plain_pairs ps) (joined (plain_pairs fs)) (sym all) (omega (arith, few, length-plain ps)) (strictly_joined fs up)
+    (λ q. sum_joined q (plain_pairs fs) ∙ all_moved es fs moves q ∙ same q)
+    ∙ ap (option_map (λ l. pairs (pairs_of l))) (sym is)

@@ -17,4 +17,3 @@ pub mod OwnPlaces
 pub mod Running
 pub mod TotalOrders
 pub mod Totals
-pub mod WithPairs

@@ -18,7 +18,7 @@ use Rattle.resp_core.specs.Reply.{Reply, pairs, pairs_of}
 use Rattle.cluster_slots.specs.Lists.{all_some}
 use Rattle.redis_combiners.specs.Aggregate.{total}
 use Rattle.redis_combiners.specs.KeyNumbers.{KeyNumber, all_pairs}
-use Rattle.redis_combiners.specs.Entries.{total_among, sum_of_totals}
+use Rattle.redis_combiners.specs.Entries.{total_among}
 use Rattle.redis_combiners.specs.Totals.{has_key, total_of, total_at, ascending_keys, totals, IsListing, reply_pair, combined_map}
 use Rattle.resp_core.proofs.Cases.{by_test}
 
@@ -147,6 +147,12 @@ are_totals es ps s h = same_entries order nat_list_cmp_total (slice_cmp-IsAntisy
 -- pairs that make the same total of each key make the same totals
 pub same_totals : (ps qs : List KeyNumber) → ((q : List ℕ) → sum_at q ps ≡ sum_at q qs) → totals ps ≡ totals qs
 same_totals ps qs h = are_totals (totals ps) qs (totals_ascend ps) (λ q. find_totals q ps ∙ sym (sum_at_is q ps) ∙ h q ∙ sum_at_is q qs)
+
+-- the sum of two totals, each of which may be missing
+abbrev pub sum_of_totals : Option ℤ → Option ℤ → Option ℤ
+sum_of_totals None o = o
+sum_of_totals (Some a) None = Some a
+sum_of_totals (Some a) (Some b) = Some (a +ℤ b)
 
 -- a total, so far and of the rest
 pub plus_none : (o : Option ℤ) → sum_of_totals o None ≡ o

@@ -1,5 +1,5 @@
 -- Pairs and entries of the code, seen as plain data.
-use Rattle.std.specs.Prelude.{ℕ, ◌+◌, ℤ, ◌+ℤ◌, Bool, false, List, [], ◌∷◌, length, map, Option, Some, None, option_map, slice_get, if◌then◌else◌, Vec}
+use Rattle.std.specs.Prelude.{ℕ, ℤ, ◌+ℤ◌, Bool, false, List, [], ◌∷◌, map, Option, Some, None, slice_get, if◌then◌else◌, Vec}
 use Rattle.std.specs.Global.{Global}
 use Rattle.std.specs.Str.{bytes_eq}
 use Rattle.redis_combiners.specs.KeyNumbers.{KeyNumber}
@@ -21,17 +21,6 @@ entry_has key (Some entry) = bytes_eq entry.0.items key
 -- whether the entry at an index has the key
 abbrev pub has_key_at : List (Vec ℕ Global × ℤ) → ℕ → List ℕ → Bool
 has_key_at entries place key = entry_has key (slice_get entries place)
-
--- the sum of two totals, each of which may be missing
-abbrev pub sum_of_totals : Option ℤ → Option ℤ → Option ℤ
-sum_of_totals None o = o
-sum_of_totals (Some a) None = Some a
-sum_of_totals (Some a) (Some b) = Some (a +ℤ b)
-
--- the number of pairs and the total of the key, after pairs are added, if there are pairs to add
-abbrev pub with_pairs : ℕ → Option ℤ → List ℕ → Option (List KeyNumber) → Option (ℕ × Option ℤ)
-with_pairs count so_far key added =
-    option_map (λ pairs. (count + length pairs, sum_of_totals so_far (total_at key pairs))) added
 
 -- the pairs with a key and a total before them, where pairs of one key side by side are one
 abbrev pub joined_after : List ℕ → ℤ → List KeyNumber → List KeyNumber

@@ -1,4 +1,4 @@
-ghost use Rattle.std.specs.Prelude.{◌≡◌, ◌++◌, ◌∷◌, [], ◌+◌, ◌^◌, ◌<◌, ◌+ℤ◌, ◌⊎◌, ℕ, pos, List, map, MatchResult, IfOk, IfSome, OnOk, option_map, unwrap_or, Some, None, if◌then◌else◌, cond, IsPermutation};
+ghost use Rattle.std.specs.Prelude.{◌≡◌, ◌++◌, ◌∷◌, [], ◌+ℤ◌, ◌⊎◌, ℕ, pos, List, map, MatchResult, IfOk, OnOk, option_map, unwrap_or, Some, None, if◌then◌else◌, cond, IsPermutation};
 ghost use Rattle.std.specs.Str.{bytes_eq};
 ghost use Rattle.std.specs.Ordering.{nat_cmp};
 ghost use Rattle.std.specs.Cmp.Lexicographic.{slice_cmp};
@@ -8,23 +8,13 @@ ghost use Rattle.resp_core.specs.Reply.{Reply};
 ghost use Rattle.resp_core.specs.View.{view, view_pair};
 ghost use Rattle.resp_core.specs.declared.error.ErrorKind.TheVariants.{UnexpectedReturnType};
 ghost use Rattle.cluster_slots.specs.Lists.{all_some};
-ghost use Rattle.redis_combiners.specs.Entries.{plain_pairs, total_among, has_key_at, with_pairs, joined};
+ghost use Rattle.redis_combiners.specs.Entries.{plain_pairs, total_among, has_key_at, joined};
 ghost use Rattle.redis_combiners.specs.KeyNumbers.{KeyNumber, pairs_among, all_pairs};
 ghost use Rattle.redis_combiners.specs.Totals.{totals, IsListing, reply_pair, combined_map};
 
 use resp_core::{ErrorKind, RedisError, RedisResult, Value};
 use std::alloc::{AllocError, Global};
 use std::cmp::Ordering;
-
-/// The most pairs that are summed up.
-const MOST_PAIRS: u64 = u64::MAX / 2;
-
-/// Totals of keys, and the number of pairs in them. A key with several totals has their sum.
-#[derive(Drop)]
-struct KeyTotals {
-    totals: Vec<(Vec<u8>, i128)>,
-    pair_count: u64,
-}
 
 /// Combines replies that are arrays of keys and numbers in turn, as of `PUBSUB NUMSUB`, into one
 /// map. The map has each key, by ascending bytes, with the sum of its numbers. No replies make an
@@ -46,13 +36,14 @@ pub fn combine_map_results(alloc: Global, values: Vec<Value>) -> RedisResult<Val
     ensures any_order { (others : List Reply) → IsPermutation (map view values.items) others
         → combined_map others ≡ combined_map (map view values.items) }
 {
-    let Some(sums) = sum_replies(alloc, values)? else {
+    let Some(pairs) = collect_pairs(alloc, values)? else {
         return Err(RedisError::from((
             ErrorKind::UnexpectedReturnType,
             "a reply is not an array of keys and numbers in turn",
         )));
     };
-    let ascending = by_key(sums.totals)?;
+    let totals = add_up(alloc, pairs)?;
+    let ascending = by_key(totals)?;
     match to_entries(alloc, ascending)? {
         Some(list) => Ok(Value::Map(list)),
         None => Err(RedisError::from((
@@ -62,44 +53,33 @@ pub fn combine_map_results(alloc: Global, values: Vec<Value>) -> RedisResult<Val
     }
 }
 
-/// The totals over all replies, if each is an array of bulk strings and numbers in turn.
-fn sum_replies(alloc: Global, values: Vec<Value>) -> Result<Option<KeyTotals>, AllocError>
-    ensures totals { IfOk result (λ sums. (q : List ℕ)
-        → option_map (λ s. (s.pair_count, total_among s.totals.items q)) sums
-        ≡ with_pairs 0 None q (all_pairs (map view values.items))) }
-    ensures few { IfOk result (λ sums. IfSome sums (λ s. s.pair_count < 2 ^ 63)) }
+/// The pairs of all replies, if each is an array of bulk strings and numbers in turn.
+fn collect_pairs(
+    alloc: Global,
+    values: Vec<Value>,
+) -> Result<Option<Vec<(Vec<u8>, i64)>>, AllocError>
+    ensures { IfOk result (λ pairs. option_map (λ p. plain_pairs p.items) pairs
+        ≡ all_pairs (map view values.items)) }
 {
-    // Mostly each reply has the keys of the first.
-    let room = match values.first() {
-        Some(Value::Array(items)) => items.len() / 2,
-        _ => 0,
-    };
-    let mut sums = KeyTotals {
-        totals: Vec::with_capacity(alloc, room)?,
-        pair_count: 0,
-    };
+    let mut pairs = Vec::new(alloc);
     for value in values {
         let Some(items) = value.into_array() else {
             return Ok(None);
         };
-        if !add_pairs(&mut sums, items)? {
+        if !add_pairs(&mut pairs, items)? {
             return Ok(None);
         }
     }
-    Ok(Some(sums))
+    Ok(Some(pairs))
 }
 
-/// Adds the pairs of the items, if these are bulk strings and numbers in turn. Replies mostly have
-/// the same keys in order, so each key is first looked for after the one before it.
-fn add_pairs(sums: &mut KeyTotals, items: Vec<Value>) -> Result<bool, AllocError>
-    requires { sums.old.pair_count < 2 ^ 63 }
-    ensures totals { IfOk result (λ ok. (q : List ℕ)
-        → with_pairs sums.old.pair_count (total_among sums.old.totals.items q) q
+/// Adds the pairs of the items, if these are bulk strings and numbers in turn.
+fn add_pairs(pairs: &mut Vec<(Vec<u8>, i64)>, items: Vec<Value>) -> Result<bool, AllocError>
+    ensures { IfOk result (λ ok. option_map (λ found. plain_pairs pairs.old.items ++ found)
         (pairs_among (map view items.items))
-        ≡ (if ok then Some (sums.new.pair_count, total_among sums.new.totals.items q) else None)) }
-    ensures few { OnOk result (sums.new.pair_count < 2 ^ 63) }
+        ≡ (if ok then Some (plain_pairs pairs.new.items) else None)) }
 {
-    let mut place = 0_usize;
+    pairs.reserve(items.len() / 2)?;
     let mut rest = items.into_iter();
     while let Some(key) = rest.next() {
         let Some(number) = rest.next() else {
@@ -111,38 +91,35 @@ fn add_pairs(sums: &mut KeyTotals, items: Vec<Value>) -> Result<bool, AllocError
         let Some(n) = number.as_int() else {
             return Ok(false);
         };
-        if add_pair(sums, place, bytes, n)? {
-            place = place.saturating_add(1);
-        }
+        pairs.push((bytes, n))?;
     }
     Ok(true)
 }
 
-/// Counts a pair and adds its number to the total of its key. Returns whether that was at `place`.
-fn add_pair(sums: &mut KeyTotals, place: usize, key: Vec<u8>, n: i64) -> Result<bool, AllocError>
-    ensures count { OnOk result (sums.new.pair_count ≡ sums.old.pair_count + 1) }
-    ensures few { OnOk result (sums.new.pair_count < 2 ^ 63) }
-    ensures totals { OnOk result ((q : List ℕ)
-        → total_among sums.new.totals.items q
-        ≡ cond (bytes_eq key.items q)
-        (Some (unwrap_or (total_among sums.old.totals.items key.items) (pos 0) +ℤ n))
-        (total_among sums.old.totals.items q)) }
+/// Totals of the pairs. A key may have several, whose sum is its total.
+///
+/// Nodes mostly reply with the same keys in one order. So each key is looked for right after the
+/// key before it, and from the first one on again after the last.
+fn add_up(alloc: Global, pairs: Vec<(Vec<u8>, i64)>) -> Result<Vec<(Vec<u8>, i128)>, AllocError>
+    ensures { IfOk result (λ totals. (q : List ℕ)
+        → total_among totals.items q ≡ total_among pairs.items q) }
 {
-    if sums.pair_count >= MOST_PAIRS {
-        return Err(AllocError);
+    let mut totals = Vec::new(alloc);
+    let mut place = 0_usize;
+    for (key, n) in pairs {
+        place = add_number(&mut totals, place, key, i128::from(n))?;
     }
-    sums.pair_count += 1;
-    add_number(&mut sums.totals, place, key, i128::from(n))
+    Ok(totals)
 }
 
-/// Adds a number to the total at index `place` if that has its key, or appends it. Returns whether
-/// it had.
+/// Adds a number to the total at index `place` if that has its key, or appends it. Returns the index
+/// to look at for the next key.
 fn add_number(
     totals: &mut Vec<(Vec<u8>, i128)>,
     place: usize,
     key: Vec<u8>,
     number: i128,
-) -> Result<bool, AllocError>
+) -> Result<usize, AllocError>
     ensures { OnOk result ((q : List ℕ)
         → total_among totals.new.items q
         ≡ cond (bytes_eq key.items q)
@@ -152,11 +129,17 @@ fn add_number(
     if has_key(totals, place, &key) {
         let total = &mut totals[place].1;
         *total = sum_of(*total, number)?;
-        Ok(true)
+        Ok(place_after(place, totals.len()))
     } else {
         totals.push((key, number))?;
-        Ok(false)
+        Ok(place)
     }
+}
+
+/// The index after one of `count`, and the first after the last.
+fn place_after(place: usize, count: usize) -> usize {
+    let next = place.saturating_add(1);
+    if next < count { next } else { 0 }
 }
 
 /// Whether the total at index `place` has this key.
