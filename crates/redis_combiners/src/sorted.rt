@@ -22,7 +22,6 @@ use std::alloc::Global;
 /// its end. `Client` if there are not as many replies as lists. For the first reply that does not
 /// fit, `UnexpectedReturnType` if it is not an array, and else `Client`. `Client` if the indices
 /// are not the numbers from 0 on, each once. `OutOfMemory` may come instead of any of these.
-/// on, each once. Out of memory may come in place of any of these.
 pub fn combine_and_sort_array_results(
     alloc: Global,
     values: Vec<Value>,
