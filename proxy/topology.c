@@ -81,7 +81,7 @@ static void add_all(topology *map, node **nodes, size_t count) {
     }
 }
 
-/* A slot has another owner now. It goes slowly for a while, and does not wait for a connection to the old one. */
+/* A slot has another owner now, and goes slowly for a while. No part waits to reach the old one. */
 static void change_owner(worker *worker, uint16_t slot) {
     node *old = topology_owner(worker, slot);
     topology_slows(worker, slot);
