@@ -515,7 +515,7 @@ static int once(int call) {
     case 2: /* resp::read_request redis_bytes::registry_in redis_bytes::fields_in redis_bytes::register_line */
         answer = slotroute_route(BYTES(messages[2]), BYTES(NAMES), 1, &routed, &told);
         break;
-    case 3: /* redis_bytes::split resp::push_bulk */
+    case 3: /* redis_bytes::split resp::read_args resp::push_bulk */
         answer = slotroute_split(BYTES(messages[1]), NULL, 0, slots, 8, ends, 8, out, sizeof out, &told);
         break;
     case 4: /* redis_bytes::combine resp::write */
