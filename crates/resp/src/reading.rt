@@ -20,9 +20,9 @@ pub(super) const MOST_ITEMS: u64 = 16;
 /// simple string that is not UTF-8 is read as a bulk string. `*-1` is nil. Inline commands and the
 /// types of version 3 are `Malformed`.
 ///
-/// Memory is taken only for bytes that are there, never for an announced length. This is tested,
-/// not proved. Recursion ends at `MAX_LEVELS`. The cost is O(bytes). A call after more bytes have
-/// come reads all bytes again.
+/// Memory is taken for bytes that are there, and for at most 16 items that an array announces. This
+/// is tested, not proved. Recursion ends at `MAX_LEVELS`. The cost is O(bytes). A call after more
+/// bytes have come reads all bytes again.
 ///
 /// # Errors
 ///

@@ -15,8 +15,9 @@ use std::alloc::{AllocError, Global};
 /// Any bytes may be passed. `*0\r\n` is a command of no argument. Inline commands are `Malformed`,
 /// and so are numbers with a sign or a leading zero.
 ///
-/// Memory is taken only for bytes that are there, never for an announced length. This is tested,
-/// not proved. The cost is O(bytes). A call after more bytes have come reads all bytes again.
+/// Memory is taken for bytes that are there, and for at most 16 arguments that are announced. This
+/// is tested, not proved. The cost is O(bytes). A call after more bytes have come reads all bytes
+/// again.
 ///
 /// # Errors
 ///
@@ -41,7 +42,8 @@ pub fn read_request(alloc: Global, bytes: &[u8]) -> Result<(Cmd, &[u8]), Request
     }
 }
 
-/// Reads a request as `read_request` does, and copies nothing: the arguments are pieces of the bytes.
+/// Reads a request as `read_request` does, and copies nothing: the arguments are pieces of the
+/// bytes. `*1\r\n$4\r\nPING\r\n` has the one argument `PING`.
 ///
 /// # Errors
 ///
