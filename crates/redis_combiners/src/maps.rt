@@ -104,7 +104,7 @@ fn add_up(alloc: Global, pairs: Vec<(Vec<u8>, i64)>) -> Result<Vec<(Vec<u8>, i12
     ensures { IfOk result (λ totals. (q : List ℕ)
         → total_among totals.items q ≡ total_among pairs.items q) }
 {
-    let mut totals = Vec::new(alloc);
+    let mut totals = Vec::with_capacity(alloc, pairs.len())?;
     let mut place = 0_usize;
     for (key, n) in pairs {
         place = add_number(&mut totals, place, key, i128::from(n))?;

@@ -11,8 +11,8 @@ loop-key-init c =
     let left : c.into_iter-key-iterator.result.rest.items ≡ all = search rules in (
       tt,
       tt,
-      λ q. ap (λ z. sum_of_totals (total_among c.new-totals.result.items q) (sum_at q (plain_pairs z))) left
-          ∙ ap (λ z. sum_of_totals (total_among z q) (sum_at q (plain_pairs all))) c.new-totals.ensures.items
+      λ q. ap (λ z. sum_of_totals (total_among c.in_ok-totals.totals.items q) (sum_at q (plain_pairs z))) left
+          ∙ ap (λ z. sum_of_totals (total_among z q) (sum_at q (plain_pairs all))) c.in_ok-totals.ensures.items
           ∙ sum_at_is q (plain_pairs all),
     )
 
