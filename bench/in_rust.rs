@@ -686,6 +686,10 @@ fn counts(count: usize, node: usize) -> Value {
     Value::Array(numbers.into_iter().flat_map(pair).collect())
 }
 
+fn time_totals(replies: Vec<Value>) {
+    time(|| replies.clone(), totals);
+}
+
 fn time_sorted(size: usize) {
     let routes = split(
         &command_of_keys(b"MGET", size),
@@ -808,10 +812,8 @@ fn main() {
             let replies = ints(size);
             time(|| replies.clone(), sum);
         }
-        "combine-maps" => {
-            let replies: Vec<Value> = (0..3).map(|node| counts(size, node)).collect();
-            time(|| replies.clone(), totals);
-        }
+        "combine-maps" => time_totals((0..3).map(|node| counts(size, node)).collect()),
+        "combine-maps-in-order" => time_totals(vec![counts(size, 0); 3]),
         "combine-sorted" => time_sorted(size),
         "command" => {
             let words = vec![b"argument".as_slice(); size];

@@ -49,7 +49,7 @@ fn call(name: &str, watch: &mut Watch<'_>, given: &Given<'_>) -> Result<(), Faul
         "plan-get" | "plan-dbsize" => watch.time(given, commands::planned),
         "drive-del" => commands::driven(watch, given),
         "combine-sums" => replies::summed(watch, given),
-        "combine-maps" => replies::mapped(watch, given),
+        "combine-maps" | "combine-maps-in-order" => replies::mapped(watch, given),
         "combine-sorted" => replies::sorted(watch, given),
         "clone-bulk-array" => watch.time(given, replies::cloned),
         _ => Err(Fault::Words),
