@@ -197,13 +197,16 @@ fn topology_of(map: &SlotMap) -> Topology {
 enum Hosts {
     /// Those of at most 1000 nodes.
     Shared,
-    /// One for each range, and all with one hash in the layer.
+    /// One for each range.
+    Own,
+    /// One for each range, as long, and all with one hash in the layer.
     OneHash,
 }
 
 fn host_of(hosts: Hosts, number: usize) -> String {
     match hosts {
         Hosts::Shared => format!("10.0.{}.{}", number % 1000 / 250, number % 250),
+        Hosts::Own => format!("host{:020}{number:08}", mixed(number as u64)),
         Hosts::OneHash => format!("collidehostcxkzgMOsKSBRA{number:08}"),
     }
 }
@@ -788,7 +791,9 @@ fn main() {
         }
         "insert-descending" | "extend-descending" => time_inserts(size),
         "topology" => time_topology(Hosts::Shared, size),
+        "topology-own" => time_topology(Hosts::Own, size),
         "topology-one-hash" => time_topology(Hosts::OneHash, size),
+        "nodes-own" => time_all_nodes(Hosts::Own, size),
         "nodes-one-hash" => time_all_nodes(Hosts::OneHash, size),
         "read-only-names" => time_names(size, |number| format!("MOD{}.CMD{number}", number % 50)),
         "read-only-names-one-spot" => {
