@@ -124,6 +124,24 @@ impl MemoryNodes {
         self.trace.as_slice()
     }
 
+    /// Drops the trace, and the fuse and the plan, which count by it. Keeps the keys and the registered
+    /// names. Takes no memory.
+    pub fn clear_trace(&mut self)
+        ensures registered { registered_in self.new ≡ registered_in self.old }
+        ensures keyspace { keyspace_in self.new ≡ keyspace_in self.old }
+        ensures trace { trace_in self.new ≡ [] }
+        ensures mark { mark_in self.new ≡ false }
+        ensures fuse { fuse_in self.new ≡ None }
+        ensures planned { (count : ℕ) → planned_in self.new count ≡ Planned.Answer }
+        ensures may_refuse { (count : ℕ) (ending : Ending) → ¬ (MayRefuse self.new count ending) }
+    {
+        self.trace.clear();
+        self.fuse = None;
+        self.plan.clear();
+        self.base = 0;
+        self.mark = false;
+    }
+
     /// Whether the fuse refuses the next send.
     fn is_fused(&self) -> bool
         ensures { IsTrue result ↔ IsFused (fuse_in self.now) (length (trace_in self.now)) }
