@@ -60,7 +60,8 @@ pub fn run_commands<R: Source, O: Sink>(
     Err(RunFault::Memory)
 }
 
-/// What the command of a line prints: nothing if the line has no field.
+/// What the command of a line prints: nothing if the line has no field. Drops the trace of the
+/// commands before it.
 fn line_text(
     alloc: Global,
     direction: &Direction,
@@ -83,6 +84,7 @@ fn line_text(
     if fields.is_empty() {
         return Ok(Vec::new(alloc));
     }
+    nodes.clear_trace();
     run_command(
         alloc, direction, &fields, read_only, slot_map, strategy, nodes,
     )
