@@ -1,5 +1,6 @@
 -- What stands at keys after changes at one key.
-use Rattle.std.proofs.Common.{◌≡◌, List, ℕ, Bool, true, false, cond, Option, Some, None, option_map, refl, ap, ◌∙◌}
+use Rattle.std.proofs.Common.{◌≡◌, List, [], ◌∷◌, ℕ, Bool, true, false, cond, Option, Some, None, option_map, refl, ap, ◌∙◌}
+use Rattle.std.specs.Option.{option_and}
 use Rattle.std.specs.Str.{bytes_eq}
 use Rattle.std.proofs.lemmas.Slice.Eq.{bytes_eq-Decides}
 use Rattle.resp_core.proofs.Cases.{by_test}
@@ -36,6 +37,21 @@ module _ {X : Type 0} where
       back-some : (before : Option X) → back before (Some x) ≡ before
       back-some None = refl
       back-some (Some y) = refl
+
+  -- changes at no bytes and at some, in either order
+  pub put-apart : (byte : ℕ) (bytes : List ℕ) (x y : Option X) (ks : Keyspace X) → put [] x (put (byte ∷ bytes) y ks) ≡ put (byte ∷ bytes) y (put [] x ks)
+  put-apart byte bytes x y ks = λ i other. at_other other i
+    where
+      at_other : (other : List ℕ) → put [] x (put (byte ∷ bytes) y ks) other ≡ put (byte ∷ bytes) y (put [] x ks) other
+      at_other [] = refl
+      at_other (first ∷ others) = refl
+
+  -- what goes back, by `Option::and`
+  pub and-back : (before now : Option X) → option_and now before ≡ back before now
+  and-back None None = refl
+  and-back None (Some y) = refl
+  and-back (Some x) None = refl
+  and-back (Some x) (Some y) = refl
 
 module _ {X Y : Type 0} (f : X → Y) where
   -- a change, seen by a function of what stands at each key

@@ -6,7 +6,7 @@ use Rattle.memory_nodes.specs.Cells.{Cell, cell_of}
 use Rattle.memory_nodes.specs.Undo.{back, cell_before, undone, before_all}
 use Rattle.memory_nodes.specs.declared.change.Before.TheVariants.{AtKey, AtPath}
 use Rattle.memory_nodes.specs.declared.change.Change.{Change}
-use Rattle.memory_nodes.proofs.Keyspaces.{Values}
+use Rattle.memory_nodes.specs.declared.cells.Values.{Values}
 use Rattle.memory_nodes.proofs.Puts.{put-there, put-restored, back-there}
 
 -- a write of a whole key

@@ -1,15 +1,43 @@
 ghost use Rattle.std.specs.Prelude.{◌≡◌, None, Some, IfOk, OnOk, OnErr, is_some, option_copied, option_map};
 ghost use Rattle.redis_cluster.specs.Unsplit.{put};
-ghost use Rattle.memory_nodes.specs.Cells.{cell_of, keyspace_of, value_at};
+ghost use Rattle.memory_nodes.specs.Cells.{path_value, cell_of, keyspace_of, value_at};
 ghost use Rattle.memory_nodes.specs.Steps.{single_value, written};
-ghost use Rattle.memory_nodes.specs.Undo.{undone};
+ghost use Rattle.memory_nodes.specs.Undo.{back, undone};
 
 use crate::change::{Before, Change};
-use crate::tree::{Tree, put_at};
+use crate::tree::{Tree, put_at, put_back};
 use std::alloc::{AllocError, Global};
 
-/// The values of one key, by path.
-pub(super) type Values = Tree<Vec<u8>>;
+/// The values of one key, by path. Most keys have no path, and then take no tree.
+#[derive(Drop)]
+pub(super) struct Values {
+    /// The value at the empty path.
+    plain: Option<Vec<u8>>,
+    /// The values at other paths.
+    others: Tree<Vec<u8>>,
+}
+
+impl Values {
+    /// No value. Takes no memory.
+    fn new(alloc: Global) -> Values
+        ensures { cell_of result ≡ (λ path. None) }
+    {
+        Values {
+            plain: None,
+            others: Tree::new(alloc),
+        }
+    }
+
+    /// The value at a path.
+    fn get(&self, path: &[u8]) -> Option<&Vec<u8>>
+        ensures { option_copied result ≡ path_value self.now path.now }
+    {
+        if path.is_empty() {
+            return self.plain.as_ref();
+        }
+        self.others.get(path)
+    }
+}
 
 /// The values of each key.
 pub(super) type Cells = Tree<Values>;
@@ -119,6 +147,23 @@ fn put_value(
         (λ before. option_map (λ v. v.items) before ≡ cell_of values.old path.now) }
     ensures memory { OnErr result (cell_of values.new ≡ cell_of values.old) }
 {
-    let before = put_at(alloc, values, path, value.to_vec(alloc)?)?;
+    let copied = value.to_vec(alloc)?;
+    if path.is_empty() {
+        return Ok(values.plain.replace(copied));
+    }
+    let before = put_at(alloc, &mut values.others, path, copied)?;
     Ok(before)
+}
+
+/// Puts back the value that a path had before. Takes no memory.
+pub(super) fn put_value_back(values: &mut Values, path: &[u8], before: Option<Vec<u8>>)
+    ensures { cell_of values.new
+        ≡ put path.now (back (option_map (λ v. v.items) before) (cell_of values.old path.now))
+        (cell_of values.old) }
+{
+    if path.is_empty() {
+        values.plain = values.plain.take().and(before);
+    } else {
+        put_back(&mut values.others, path, before);
+    }
 }

@@ -2,7 +2,7 @@ ghost use Rattle.std.specs.Prelude.{◌≡◌};
 ghost use Rattle.memory_nodes.specs.Cells.{keyspace_of};
 ghost use Rattle.memory_nodes.specs.Undo.{undone, before_all};
 
-use crate::cells::{Cells, Values};
+use crate::cells::{Cells, Values, put_value_back};
 use crate::tree::put_back;
 
 /// What it takes to undo a write.
@@ -33,7 +33,7 @@ impl Change<'_> {
             Before::AtKey(before) => put_back(cells, key, before),
             Before::AtPath(path, before) => {
                 if let Some(values) = cells.get_mut(key) {
-                    put_back(values, path, before);
+                    put_value_back(values, path, before);
                 }
             }
         }

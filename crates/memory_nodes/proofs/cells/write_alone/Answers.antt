@@ -2,7 +2,7 @@ use Rattle.std.proofs.Common.{◌≡◌, ap, ◌∙◌, Some, None, option_map}
 use Rattle.redis_cluster.specs.Unsplit.{put}
 use Rattle.memory_nodes.specs.Cells.{cell_of, keyspace_of}
 use Rattle.memory_nodes.specs.Steps.{written}
-use Rattle.memory_nodes.proofs.Keyspaces.{cell-empty, keyspace-put, keyspace-same}
+use Rattle.memory_nodes.proofs.Keyspaces.{keyspace-put, keyspace-same}
 use Rattle.memory_nodes.proofs.Undoing.{undone-key, at-err}
 use Rattle.memory_nodes.proofs.cells.write_alone.Goals as goal
 
@@ -12,7 +12,7 @@ returns-clause-cells c =
     let path = c.args.path.now in
     let old = c.args.cells.now in
     let values = c.put_value.new.values in
-    let is : cell_of values ≡ written path c.args.value.now None = c.in_ok-put_value.ensures.values ∙ ap (λ cell. put path (Some c.args.value.now) cell) (cell-empty c.new-values.result c.new-values.ensures.empty) in
+    let is : cell_of values ≡ written path c.args.value.now None = c.in_ok-put_value.ensures.values ∙ ap (λ cell. put path (Some c.args.value.now) cell) c.new-values.ensures in
     keyspace-put key old c.put_at.new.tree (Some values) c.in_ok-before.ensures.tree
     ∙ ap (λ cell. put key (Some cell) (keyspace_of old)) is
 
