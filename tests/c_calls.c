@@ -515,7 +515,7 @@ static int once(int call) {
     case 2: /* resp::read_request redis_bytes::registry_in redis_bytes::fields_in redis_bytes::register_line */
         answer = slotroute_route(BYTES(messages[2]), BYTES(NAMES), 1, &routed, &told);
         break;
-    case 3: /* redis_bytes::split resp::read_args resp::push_bulk */
+    case 3: /* redis_bytes::split redis_bytes::Request::read redis_bytes::push_part resp::read_args resp::push_bulk */
         answer = slotroute_split(BYTES(messages[1]), NULL, 0, slots, 8, ends, 8, out, sizeof out, &told);
         break;
     case 4: /* redis_bytes::combine resp::write */
@@ -529,12 +529,11 @@ static int once(int call) {
         answer = slotroute_redirect(BYTES("MOVED 1 a-host-of-more-than-sixteen-bytes:1"), BYTES("n1"), out,
                                     sizeof out, &redirected);
         break;
-    case 7: /* redis_batch_bytes::split_pipeline redis_batches::tasks_of redis_batches::slots_of
-               redis_batches::PipelinePlan::of_tasks resp::push_command */
+    case 7: /* redis_batch_bytes::split_pipeline redis_batches::meaning_of redis_batches::places_by_number */
         answer = slotroute_split_pipeline(BYTES(PIPELINE), NULL, 0, halves, SLOTROUTE_SLOTS, slots, 8, counts,
                                           8, ends, 8, out, sizeof out, &told);
         break;
-    case 8: /* redis_batch_bytes::combine_pipeline */
+    case 8: /* redis_batch_bytes::combine_pipeline redis_batches::no_answers redis_batches::reply_of */
         answer = slotroute_combine_pipeline(BYTES(PIPELINE), NULL, 0, halves, SLOTROUTE_SLOTS,
                                             BYTES("-ERR no\r\n*1\r\n$1\r\n1\r\n*1\r\n$-1\r\n"), out,
                                             sizeof out, &told);

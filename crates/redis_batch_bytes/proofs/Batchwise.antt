@@ -1,36 +1,33 @@
 -- A plan is told the answers to its batches, one batch after the other.
-use Rattle.std.proofs.Common.{◌≡◌, ◌<◌, ◌≤◌, ◌+◌, ◌-◌, ◌⊎◌, inl, inr, ℕ, List, [], ◌∷◌, ◌++◌, Option, Some, Result, Ok, Err, IfOk, IfErr, option_map, false, true, All, refl, sym, ap, subst, ◌∙◌, arith, length, map, take}
-use Rattle.std.specs.Prelude.{nat_eq, slice_get, slice_set}
+use Rattle.std.proofs.Common.{◌≡◌, ◌<◌, ◌≤◌, ◌+◌, ◌-◌, ◌⊎◌, inl, inr, ℕ, List, [], ◌∷◌, ◌++◌, Some, Result, Ok, option_map, true, All, refl, sym, ap, subst, ◌∙◌, arith, get_or, length, map, take}
+use Rattle.std.specs.Prelude.{nat_eq, slice_get}
 use Rattle.std.specs.List.{concat}
 use Rattle.std.proofs.lemmas.Bool.{eqb-true}
 use Rattle.std.proofs.lemmas.Bool.Decides.{nat_tests}
 use Rattle.std.proofs.lemmas.List.{length-append, length-map, map-append, take_all}
 use Rattle.std.proofs.lemmas.List.Elements.{All-contains}
-use Rattle.std.proofs.lemmas.Option.{slice_get-map}
+use Rattle.std.proofs.lemmas.Option.{same_Some, slice_get-map}
 use Rattle.resp_core.specs.Answer.{Answer, answer_of}
 use Rattle.resp_core.proofs.Cases.{by_test}
 use Rattle.resp_core.specs.ErrorParts.{ErrorParts}
 use Rattle.resp_core.specs.View.{view}
 use Rattle.resp_core.specs.declared.value.Value.{Value}
-use Rattle.redis_routing.specs.Split.{Split}
 use Rattle.redis_cluster.specs.Orders.{in_order}
 use Rattle.redis_cluster.proofs.Orders.{in_order-append, length-in_order}
 use Rattle.redis_bytes.specs.Replies.{HasNoForm, IsAnswer}
-use Rattle.redis_batches.specs.Batched.{IsRight}
-use Rattle.redis_batches.specs.Plan.{IsPlan}
-use Rattle.redis_batches.specs.PipelinePlan.{IsSameBut, PipelineBatches}
+use Rattle.redis_batches.specs.Batched.{IsRight, put_at}
+use Rattle.redis_batches.specs.Plan.{Batches}
+use Rattle.redis_batches.specs.PipelinePlan.{PipelineBatches}
 use Rattle.redis_batches.specs.Replies.{AreRepliesFor}
-use Rattle.redis_batches.proofs.Telling.{same_more}
-use Rattle.redis_batches.proofs.Entries.{get_there}
-use Rattle.redis_cluster.proofs.Sending.{set_there}
+use Rattle.redis_batches.proofs.Putting.{length-put_at, put_kept, put_right}
 use Rattle.redis_batch_bytes.specs.declared.fault.BatchFault.{BatchFault}
 use Rattle.redis_batch_bytes.specs.declared.fault.BatchFault.TheVariants as faults
 use Rattle.redis_batch_bytes.specs.Plans.{EachIsSent}
-use Rattle.redis_batch_bytes.specs.Replies.{BatchesAreAnswered, AreByBatch, AreTold, AreUnwritten, IsToldBatch, IsUncombinedBy, StandAsTold}
+use Rattle.redis_batch_bytes.specs.Replies.{BatchesAreAnswered, AreByBatch, AreTold, AreUnwritten, IsUncombinedBy, StandAsTold}
 use Rattle.redis_batch_bytes.specs.Told.{answer_of_wire}
 use Rattle.redis_batch_bytes.specs.Unread.{AnswersAreFollowed, AreUnreadAnswers, IsFirstNoAnswer, IsFirstUnreadBatch, IsUnreadAnswer}
 use Rattle.redis_batch_bytes.proofs.Fronts.{more_stand}
-use Rattle.redis_batch_bytes.proofs.Lists.{concat_more, same_lists, split_right, within}
+use Rattle.redis_batch_bytes.proofs.Lists.{are_for, concat_more, same_lists, split_right, within}
 
 -- answers stand in front of others
 pub more_told : (bytes rest after : List ℕ) (given own : List Answer) → StandAsTold bytes rest given → StandAsTold rest after own → StandAsTold bytes after (given ++ own)
@@ -52,96 +49,82 @@ pub said_long : (bytes rest : List ℕ) (given : List Answer) (stand : StandAsTo
 said_long bytes rest given stand = sym (ap length stand.given_are ∙ length-map stand.said answer_of_wire)
 
 -- after so many batches
-pub record SoFar (old now : PipelineBatches) (count : ℕ) (bytes rest : List ℕ) : Type 0 where
-  pub same : IsSameBut old now
+pub record SoFar (places : List (List ℕ)) (answers : List (Result Value ErrorParts)) (count : ℕ) (bytes rest : List ℕ) : Type 0 where
   pub given : List Answer
   pub stand : StandAsTold bytes rest given
-  pub long : length given ≡ length (concat (take count old.batches.places))
-  pub right : (all : List Answer) → length all ≡ length old.batches.parts → given ≡ in_order all (concat (take count old.batches.places)) → (batch : ℕ) (places : List ℕ) → batch < count
-      → slice_get old.batches.places batch ≡ Some places → All (IsRight now.batches.answers all) places
-  pub untold : (batch : ℕ) → count ≤ batch → batch < length old.batches.places → slice_get now.batches.told batch ≡ Some false
+  pub long : length given ≡ length (concat (take count places))
+  pub right : (all : List Answer) → length all ≡ length answers → given ≡ in_order all (concat (take count places)) → (batch : ℕ) (own : List ℕ) → batch < count
+      → slice_get places batch ≡ Some own → All (IsRight answers all) own
 
-pub none_so_far : (old : PipelineBatches) (bytes : List ℕ) → IsPlan old.batches → All (λ told. told ≡ false) old.batches.told → SoFar old old 0 bytes bytes
-none_so_far old bytes plan none = record {
-  same = (refl, refl);
+pub none_so_far : (places : List (List ℕ)) (answers : List (Result Value ErrorParts)) (bytes : List ℕ) → SoFar places answers 0 bytes bytes
+none_so_far places answers bytes = record {
   given = [];
   stand = none_told bytes;
   long = refl;
-  right = λ all long are batch places below at. absurd (omega (arith, below));
-  untold = λ batch low below.
-      let inside : batch < length old.batches.told = omega (arith, below, plan.told) in
-      get_there old.batches.told batch true inside ∙ ap Some (none batch true inside);
+  right = λ all long are batch own below at. absurd (omega (arith, below));
 }
 
-module _ (old now new : PipelineBatches) (count : ℕ) (bytes rest after : List ℕ) (plan : IsPlan old.batches) (so_far : SoFar old now count bytes rest) (own : List ℕ)
-    (at : slice_get old.batches.places count ≡ Some own) (next : IsToldBatch now new count rest after) where
-  here : slice_get now.batches.places count ≡ Some own
-  here = ap (λ (p : PipelineBatches). slice_get p.batches.places count) so_far.same.0 ∙ at
-
-  room : (all : List Answer) → length all ≡ length old.batches.parts → length all ≡ length now.batches.parts
-  room all long = long ∙ sym (ap (λ (p : PipelineBatches). length p.batches.parts) so_far.same.0)
-
+module _ (places : List (List ℕ)) (old new given : List (Result Value ErrorParts)) (count : ℕ) (bytes rest after own : List ℕ) (so_far : SoFar places old count bytes rest)
+    (at : slice_get places count ≡ Some own) (within : All (λ place. place < length old) own) (long : length given ≡ length own) (put : new ≡ put_at old own given) (next : StandAsTold rest after (map answer_of given)) where
   -- the answers to the batches before, and those to this one
-  apart : (all : List Answer) → length all ≡ length old.batches.parts → so_far.given ++ next.given ≡ in_order all (concat (take (count + 1) old.batches.places))
-      → (so_far.given ≡ in_order all (concat (take count old.batches.places))) × (next.given ≡ in_order all own)
-  apart all long are =
-      let inside : All (λ n. n < length all) own = λ j d below. omega (arith, long, plan.within count own at j d below) in
-      split_right so_far.given next.given (in_order all (concat (take count old.batches.places))) (in_order all own)
-      (next.long own here ∙ sym (length-in_order all own inside))
-      (are ∙ ap (in_order all) (concat_more old.batches.places count own at) ∙ in_order-append all (concat (take count old.batches.places)) own)
+  apart : (all : List Answer) → length all ≡ length old → so_far.given ++ map answer_of given ≡ in_order all (concat (take (count + 1) places))
+      → (so_far.given ≡ in_order all (concat (take count places))) × (map answer_of given ≡ in_order all own)
+  apart all many are =
+      let inside : All (λ n. n < length all) own = λ j d below. omega (arith, many, within j d below) in
+      split_right so_far.given (map answer_of given) (in_order all (concat (take count places))) (in_order all own)
+      (length-map given answer_of ∙ long ∙ sym (length-in_order all own inside))
+      (are ∙ ap (in_order all) (concat_more places count own at) ∙ in_order-append all (concat (take count places)) own)
 
-  pub one_batch_more : IsSameBut now new → new.batches.told ≡ slice_set now.batches.told count true → SoFar old new (count + 1) bytes after
-  one_batch_more same flags = record {
-    same = same_more old now new so_far.same same;
-    given = so_far.given ++ next.given;
-    stand = more_told bytes rest after so_far.given next.given so_far.stand next.stand;
-    long = omega (arith, length-append so_far.given next.given, so_far.long, next.long own here, ap length (concat_more old.batches.places count own at), length-append (concat (take count old.batches.places)) own);
-    right = λ all long are batch places below found.
-        let both = apart all long are in
+  many_still : length new ≡ length old
+  many_still = ap length put ∙ length-put_at old own given
+
+  pub one_batch_more : SoFar places new (count + 1) bytes after
+  one_batch_more = record {
+    given = so_far.given ++ map answer_of given;
+    stand = more_told bytes rest after so_far.given (map answer_of given) so_far.stand next;
+    long = omega (arith, length-append so_far.given (map answer_of given), so_far.long, length-map given answer_of, long, ap length (concat_more places count own at), length-append (concat (take count places)) own);
+    right = λ all many are batch mine below found.
+        let here : length all ≡ length old = many ∙ many_still in
+        let both = apart all here are in
+        let inside : All (λ n. n < length all) own = λ j d under. omega (arith, here, within j d under) in
+        let for = are_for all own given inside both.1 in
         by_test (nat_eq batch count)
-        (λ last.
-        let is : places ≡ own = cc_places batch places last found in
-        subst (All (IsRight new.batches.answers all)) (sym is) (next.right all own here (room all long) both.1))
+        (λ last. subst (All (IsRight new all)) (sym (mine_is batch mine last found)) (subst (λ l. All (IsRight l all) own) (sym put) (put_right old given own within long all for)))
         (λ other.
         let before : batch < count = grind (arith, nat_tests) in
-        λ j d inside. next.others all own here (room all long) both.1 _ (so_far.right all long both.0 batch places before found j d inside));
-    untold = λ batch low below.
-        let other : nat_eq batch count ≡ false = grind (arith, nat_tests) in
-        ap (λ l. slice_get l batch) flags ∙ set_there now.batches.told count batch true other ∙ so_far.untold batch (omega (arith, low)) below;
+        λ j d under. subst (λ l. IsRight l all (get_or mine j d)) (sym put) (put_kept old given own within all for (get_or mine j d) (so_far.right all here both.0 batch mine before found j d under)));
   }
     where
-      cc_places : (batch : ℕ) (places : List ℕ) → nat_eq batch count ≡ true → slice_get old.batches.places batch ≡ Some places → places ≡ own
-      cc_places batch places last found =
-          let e : Some places ≡ Some own = sym found ∙ ap (λ (n : ℕ). slice_get old.batches.places n) (eqb-true batch count last) ∙ at in
-          cc
+      mine_is : (batch : ℕ) (mine : List ℕ) → nat_eq batch count ≡ true → slice_get places batch ≡ Some mine → mine ≡ own
+      mine_is batch mine last found = same_Some mine own (sym found ∙ ap (slice_get places) (eqb-true batch count last) ∙ at)
 
 -- after all batches
-pub all_told : (old new : PipelineBatches) (count : ℕ) (bytes rest : List ℕ) → SoFar old new count bytes rest → length old.batches.places ≤ count → length rest ≡ 0 → AreTold old new bytes
-all_told old new count bytes [] so_far every none =
-    let whole : take count old.batches.places ≡ old.batches.places = take_all count old.batches.places every in
+pub all_told : (places : List (List ℕ)) (answers : List (Result Value ErrorParts)) (count : ℕ) (bytes rest : List ℕ) → SoFar places answers count bytes rest → length places ≤ count → length rest ≡ 0 → AreTold places answers bytes
+all_told places answers count bytes [] so_far every none =
+    let whole : take count places ≡ places = take_all count places every in
     record {
       given = so_far.given;
       stand = so_far.stand;
       long = so_far.long ∙ ap (λ (l : List (List ℕ)). length (concat l)) whole;
-      right = λ all by batch places at.
-          so_far.right all by.0 (by.1 ∙ ap (λ (l : List (List ℕ)). in_order all (concat l)) (sym whole)) batch places (omega (arith, every, within old.batches.places batch places at)) at;
+      right = λ all many are batch own at.
+          so_far.right all many (are ∙ ap (λ (l : List (List ℕ)). in_order all (concat l)) (sym whole)) batch own (omega (arith, every, within places batch own at)) at;
     }
-all_told old new count bytes (b ∷ rest) so_far every none = absurd (omega (arith, none))
+all_told places answers count bytes (b ∷ rest) so_far every none = absurd (omega (arith, none))
 
--- so the plan has the answer to each part
-pub has_all : (old new : PipelineBatches) (bytes : List ℕ) (told_are : AreTold old new bytes) → EachIsSent old.batches → length new.batches.answers ≡ length old.batches.parts
-    → (all : List Answer) → AreByBatch old.batches all told_are.given → map answer_of new.batches.answers ≡ all
-has_all old new bytes told_are sent room all by =
-    same_lists answer_of new.batches.answers all (room ∙ sym by.0)
+-- so there is an answer to each part
+pub has_all : (batches : Batches) (answers : List (Result Value ErrorParts)) (bytes : List ℕ) (told_are : AreTold batches.places answers bytes) → EachIsSent batches → length answers ≡ length batches.parts
+    → (all : List Answer) → AreByBatch batches all told_are.given → map answer_of answers ≡ all
+has_all batches answers bytes told_are sent room all by =
+    same_lists answer_of answers all (room ∙ sym by.0)
     (λ n inside.
     let s = sent n (omega (arith, room, inside)) in
-    All-contains (IsRight new.batches.answers all) s.1 n (told_are.right all by s.0 s.1 s.2) s.3)
+    All-contains (IsRight answers all) s.1 n (told_are.right all (by.0 ∙ sym room) by.1 s.0 s.1 s.2) s.3)
 
 -- ---- the fault
 
-first_unread : (old now : PipelineBatches) (count : ℕ) (bytes rest own : List ℕ) (fault : BatchFault) → SoFar old now count bytes rest → slice_get old.batches.places count ≡ Some own
-    → IsFirstNoAnswer count (length own) rest fault → IsFirstUnreadBatch old.batches.places bytes fault
-first_unread old now count bytes rest own fault so_far at next = record {
+first_unread : (places : List (List ℕ)) (answers : List (Result Value ErrorParts)) (count : ℕ) (bytes rest own : List ℕ) (fault : BatchFault) → SoFar places answers count bytes rest → slice_get places count ≡ Some own
+    → IsFirstNoAnswer count (length own) rest fault → IsFirstUnreadBatch places bytes fault
+first_unread places answers count bytes rest own fault so_far at next = record {
   said = so_far.stand.said;
   front = so_far.stand.front;
   rest = rest;
@@ -154,47 +137,43 @@ first_unread old now count bytes rest own fault so_far at next = record {
   next = next;
 }
 
-pub unread : (old now : PipelineBatches) (count : ℕ) (bytes rest own : List ℕ) (fault : BatchFault) → SoFar old now count bytes rest → slice_get old.batches.places count ≡ Some own
-    → IsUnreadAnswer count (length own) rest fault → AreUnreadAnswers old.batches.places bytes fault
-unread old now count bytes rest own faults.Memory so_far at next = tt
-unread old now count bytes rest own (faults.Request n f) so_far at next = first_unread old now count bytes rest own (faults.Request n f) so_far at next
-unread old now count bytes rest own (faults.NotRoutable n) so_far at next = first_unread old now count bytes rest own (faults.NotRoutable n) so_far at next
-unread old now count bytes rest own (faults.NotCovered n s) so_far at next = first_unread old now count bytes rest own (faults.NotCovered n s) so_far at next
-unread old now count bytes rest own (faults.Reply b n f) so_far at next = first_unread old now count bytes rest own (faults.Reply b n f) so_far at next
-unread old now count bytes rest own (faults.AfterReplies n) so_far at next = absurd next.next
-unread old now count bytes rest own (faults.NoForm n) so_far at next = first_unread old now count bytes rest own (faults.NoForm n) so_far at next
+pub unread : (places : List (List ℕ)) (answers : List (Result Value ErrorParts)) (count : ℕ) (bytes rest own : List ℕ) (fault : BatchFault) → SoFar places answers count bytes rest → slice_get places count ≡ Some own
+    → IsUnreadAnswer count (length own) rest fault → AreUnreadAnswers places bytes fault
+unread places answers count bytes rest own faults.Memory so_far at next = tt
+unread places answers count bytes rest own (faults.Request n f) so_far at next = first_unread places answers count bytes rest own (faults.Request n f) so_far at next
+unread places answers count bytes rest own (faults.NotRoutable n) so_far at next = first_unread places answers count bytes rest own (faults.NotRoutable n) so_far at next
+unread places answers count bytes rest own (faults.NotCovered n s) so_far at next = first_unread places answers count bytes rest own (faults.NotCovered n s) so_far at next
+unread places answers count bytes rest own (faults.Reply b n f) so_far at next = first_unread places answers count bytes rest own (faults.Reply b n f) so_far at next
+unread places answers count bytes rest own (faults.AfterReplies n) so_far at next = absurd next.next
+unread places answers count bytes rest own (faults.NoForm n) so_far at next = first_unread places answers count bytes rest own (faults.NoForm n) so_far at next
 
-pub followed : (old now : PipelineBatches) (count : ℕ) (bytes rest : List ℕ) → SoFar old now count bytes rest → length old.batches.places ≤ count → 0 < length rest
-    → AnswersAreFollowed (length (concat old.batches.places)) bytes (length bytes - length rest)
-followed old now count bytes rest so_far every some = record {
+pub followed : (places : List (List ℕ)) (answers : List (Result Value ErrorParts)) (count : ℕ) (bytes rest : List ℕ) → SoFar places answers count bytes rest → length places ≤ count → 0 < length rest
+    → AnswersAreFollowed (length (concat places)) bytes (length bytes - length rest)
+followed places answers count bytes rest so_far every some = record {
   said = so_far.stand.said;
   front = so_far.stand.front;
   rest = rest;
   bytes_are = so_far.stand.bytes_are;
   are = so_far.stand.are;
-  all = said_long bytes rest so_far.given so_far.stand ∙ so_far.long ∙ ap (λ (l : List (List ℕ)). length (concat l)) (take_all count old.batches.places every);
+  all = said_long bytes rest so_far.given so_far.stand ∙ so_far.long ∙ ap (λ (l : List (List ℕ)). length (concat l)) (take_all count places every);
   end_is = omega (arith, ap (length {A = ℕ}) so_far.stand.bytes_are, length-append so_far.stand.front rest);
   more = some;
 }
 
 -- ---- the replies
 
-module _ (old new : PipelineBatches) (bytes : List ℕ) (told_are : AreTold old new bytes) (sent : EachIsSent old.batches) (room : length new.batches.answers ≡ length old.batches.parts)
-    (splits : new.splits ≡ old.splits) (found : List Answer) (are : AreRepliesFor new.splits (map answer_of new.batches.answers) found) where
+module _ (plan : PipelineBatches) (answers : List (Result Value ErrorParts)) (bytes : List ℕ) (told_are : AreTold plan.batches.places answers bytes) (sent : EachIsSent plan.batches) (room : length answers ≡ length plan.batches.parts)
+    (found : List Answer) (are : AreRepliesFor plan.splits (map answer_of answers) found) where
   -- the replies that were found are those to the answers in the bytes
-  pub answered : (AreSo : List Answer → Type 0) → AreSo found → BatchesAreAnswered old bytes AreSo
+  pub answered : (AreSo : List Answer → Type 0) → AreSo found → BatchesAreAnswered plan bytes AreSo
   answered AreSo so = record {
     given = told_are.given;
     stand = told_are.stand;
     long = told_are.long;
-    replies = λ all by. (
-      found,
-      subst (λ (l : List Answer). AreRepliesFor old.splits l found) (has_all old new bytes told_are sent room all by) (subst (λ (l : List (Option Split)). AreRepliesFor l (map answer_of new.batches.answers) found) splits are),
-      so,
-    );
+    replies = λ all by. (found, subst (λ (l : List Answer). AreRepliesFor plan.splits l found) (has_all plan.batches answers bytes told_are sent room all by) are, so);
   }
 
-  pub uncombined : (fault : BatchFault) → AreUnwritten found fault → IsUncombinedBy old bytes fault
+  pub uncombined : (fault : BatchFault) → AreUnwritten found fault → IsUncombinedBy plan bytes fault
   uncombined faults.Memory none = tt
   uncombined (faults.NoForm n) none = answered (λ replies. AreUnwritten replies (faults.NoForm n)) none
   uncombined (faults.Request n f) none = absurd none
@@ -203,18 +182,19 @@ module _ (old new : PipelineBatches) (bytes : List ℕ) (told_are : AreTold old 
   uncombined (faults.Reply b n f) none = absurd none
   uncombined (faults.AfterReplies n) none = absurd none
 
+-- answers that are not read
+pub unread_uncombined : (plan : PipelineBatches) (bytes : List ℕ) (fault : BatchFault) → AreUnreadAnswers plan.batches.places bytes fault → IsUncombinedBy plan bytes fault
+unread_uncombined plan bytes faults.Memory is = tt
+unread_uncombined plan bytes (faults.NoForm n) is = absurd is.next.next
+unread_uncombined plan bytes (faults.Request n f) is = is
+unread_uncombined plan bytes (faults.NotRoutable n) is = is
+unread_uncombined plan bytes (faults.NotCovered n s) is = is
+unread_uncombined plan bytes (faults.Reply b n f) is = is
+unread_uncombined plan bytes (faults.AfterReplies n) is = is
+
 -- why a reply is not written
 pub unwritten : (replies : List (Result Value ErrorParts)) (number : ℕ) (value : Value) (fault : BatchFault) → slice_get replies number ≡ Some (Ok value)
     → (fault ≡ faults.Memory) ⊎ ((fault ≡ faults.NoForm number) × HasNoForm (view value)) → AreUnwritten (map answer_of replies) fault
 unwritten replies number value fault at (inl memory) = subst (AreUnwritten (map answer_of replies)) (sym memory) tt
 unwritten replies number value fault at (inr no_form) =
     subst (AreUnwritten (map answer_of replies)) (sym no_form.0) (view value, slice_get-map answer_of replies number ∙ ap (option_map answer_of) at, no_form.1)
-
--- what follows from what holds where something is given, or refused
-pub if_ok : {T E : Type 0} (P Q : T → Type 0) (r : Result T E) → ((x : T) → P x → Q x) → IfOk r P → IfOk r Q
-if_ok P Q (Ok x) then' is = then' x is
-if_ok P Q (Err e) then' is = tt
-
-pub if_err : {T E : Type 0} (P Q : E → Type 0) (r : Result T E) → ((e : E) → P e → Q e) → IfErr r P → IfErr r Q
-if_err P Q (Ok x) then' is = tt
-if_err P Q (Err e) then' is = then' e is

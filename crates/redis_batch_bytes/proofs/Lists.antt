@@ -1,17 +1,21 @@
 -- Lists: what stands at places, and lists that are one.
-use Rattle.std.proofs.Common.{◌≡◌, ◌<◌, ◌+◌, ℕ, zero, suc, List, [], ◌∷◌, ◌++◌, Some, Result, All, refl, sym, ap, ◌∙◌, arith, length, map, take, drop, option_map, option_and_then, append-nil}
+use Rattle.std.proofs.Common.{◌≡◌, ◌<◌, ◌+◌, ℕ, zero, suc, List, [], ◌∷◌, ◌++◌, Some, Result, Vec, Global, All, refl, sym, ap, ◌∙◌, arith, get_or, length, map, take, drop, option_map, option_and_then, append-nil}
 use Rattle.std.specs.Prelude.{slice_get}
-use Rattle.std.specs.List.{concat}
+use Rattle.std.specs.List.{concat, flat_map}
 use Rattle.std.proofs.lemmas.List.{length-append, length-map, take_more}
+use Rattle.std.proofs.lemmas.List.Concat.{flat_map-append}
 use Rattle.std.proofs.lemmas.List.Folds.{concat-append}
-use Rattle.std.proofs.lemmas.Option.{get_or_from_slice_get, same_Some, slice_get-map}
+use Rattle.std.proofs.lemmas.Option.{get_or_from_slice_get, same_Some, slice_get-map, slice_get_read}
 use Rattle.resp_core.specs.Answer.{Answer, answer_of}
 use Rattle.resp_core.specs.ErrorParts.{ErrorParts}
 use Rattle.resp_core.specs.declared.value.Value.{Value}
 use Rattle.redis_cluster.specs.Orders.{in_order}
-use Rattle.redis_cluster.proofs.Orders.{get-in_order, length-in_order}
+use Rattle.std.specs.Option.{option_to_list}
+use Rattle.redis_cluster.proofs.Orders.{get-in_order, in_order-append}
 use Rattle.redis_batches.proofs.Entries.{get_there}
 use Rattle.redis_batches.proofs.Putting.{AreFor}
+use Rattle.resp.specs.Forms.{request}
+use Rattle.redis_batch_bytes.specs.Batches.{batch_bytes}
 
 -- what is found in a list is within it
 pub within : {X : Type 0} (xs : List X) (n : ℕ) (x : X) → slice_get xs n ≡ Some x → n < length xs
@@ -60,9 +64,17 @@ concat_more lists n own at =
 pub take_next : {X : Type 0} (xs : List X) (n : ℕ) (x : X) → slice_get xs n ≡ Some x → take (n + 1) xs ≡ take n xs ++ x ∷ []
 take_next xs n x at = take_more xs n x (within xs n x at) ∙ ap (λ y. take n xs ++ y ∷ []) (get_or_from_slice_get xs n x x at)
 
--- the commands of a batch are as many as its places
-pub batch_long : {B : Type 0} (now : B → List (List ℕ)) (batch : List B) (parts : List (List (List ℕ))) (lists : List (List ℕ)) (n : ℕ) (places : List ℕ)
-    → Some (map now batch) ≡ option_map (in_order parts) (slice_get lists n) → slice_get lists n ≡ Some places → All (λ k. k < length parts) places → length batch ≡ length places
-batch_long now batch parts lists n places is at inside =
-    let same : map now batch ≡ in_order parts places = same_Some (map now batch) (in_order parts places) (is ∙ ap (option_map (in_order parts)) at) in
-    sym (length-map batch now) ∙ ap length same ∙ length-in_order parts places inside
+-- the requests of a batch with one part more
+pub batch_more : (parts : List (List (List ℕ))) (places : List ℕ) (i : ℕ) (part : List (List ℕ)) → i < length places → slice_get parts (get_or places i 0) ≡ Some part → batch_bytes parts (take (i + 1) places) ≡ batch_bytes parts (take i places) ++ request part
+batch_more parts places i part inside at =
+    ap (batch_bytes parts) (take_more places i 0 inside) ∙ ap (flat_map request) (in_order-append parts (take i places) (get_or places i 0 ∷ []) ∙ ap (λ o. in_order parts (take i places) ++ (option_to_list o ++ [])) at)
+    ∙ flat_map-append request (in_order parts (take i places)) (part ∷ []) ∙ ap (λ l. batch_bytes parts (take i places) ++ l) (append-nil (request part))
+
+-- the list of this number
+pub own_list : (places items : List (Vec ℕ Global)) (i : ℕ) (own : Vec ℕ Global) → items ≡ places → i < length items → own ≡ get_or items i own
+    → (i < length (map (λ v. v.items) places)) × (slice_get (map (λ v. v.items) places) i ≡ Some own.items)
+own_list places items i own value inside is =
+    let within' : i < length places = omega (arith, inside, ap length value) in (
+      omega (arith, within', length-map places (λ v. v.items)),
+      slice_get-map (λ (v : Vec ℕ Global). v.items) places i ∙ ap (option_map (λ (v : Vec ℕ Global). v.items)) (slice_get_read places (length places) i own refl within' (is ∙ ap (λ l. get_or l i own) value)),
+    )

@@ -6,4 +6,5 @@ pub mod Unread
 pub mod Replies
 pub mod Several
 pub mod Numbered
+pub mod Parted
 pub mod FaultText

@@ -1,9 +1,11 @@
 -- The answers to the batches of a plan, as bytes, and the replies to its commands.
-use Rattle.std.specs.Prelude.{◌≡◌, ◌⊎◌, ℕ, List, [], ◌++◌, Some, Ok, length, map, slice_get}
+use Rattle.std.specs.Prelude.{◌≡◌, ◌⊎◌, ℕ, List, [], ◌++◌, Some, Ok, Result, length, map, slice_get}
 use Rattle.std.specs.List.{All, concat, flat_map}
 use Rattle.resp_core.specs.Answer.{Answer}
 use Rattle.resp.specs.Forms.{InOrder}
+use Rattle.resp_core.specs.ErrorParts.{ErrorParts}
 use Rattle.resp_core.specs.Reply.{Reply}
+use Rattle.resp_core.specs.declared.value.Value.{Value}
 use Rattle.redis_routing.specs.Registry.{Registrations}
 use Rattle.redis_cluster.specs.Orders.{in_order}
 use Rattle.redis_bytes.specs.Replies.{HasNoForm, IsAnswer}
@@ -66,30 +68,13 @@ PipelineIsUncombined registered numbers requests bytes fault =
     ⊎ ((plan : PipelineBatches) × IsPlanOfRequests registered numbers requests plan
     × IsUncombinedBy plan bytes fault)
 
--- ---- passing answers to a plan
-
--- The bytes begin with the answers to a batch, and the plan took these. If they are the batch's
--- answers in `all`, the plan has the answers of `all` at the batch's indices. It keeps those that
--- it had.
-pub record IsToldBatch (old new : PipelineBatches) (number : ℕ) (bytes rest : List ℕ) : Type 0 where
-  pub given : List Answer
-  pub stand : StandAsTold bytes rest given
-  pub long : (places : List ℕ) → slice_get old.batches.places number ≡ Some places
-      → length given ≡ length places
-  pub right : (all : List Answer) (places : List ℕ)
-      → slice_get old.batches.places number ≡ Some places → length all ≡ length old.batches.parts
-      → given ≡ in_order all places → All (IsRight new.batches.answers all) places
-  pub others : (all : List Answer) (places : List ℕ)
-      → slice_get old.batches.places number ≡ Some places → length all ≡ length old.batches.parts
-      → given ≡ in_order all places → (place : ℕ) → IsRight old.batches.answers all place
-      → IsRight new.batches.answers all place
-
 -- The bytes are the answers to all batches. If they are the answers in `all`, batch after batch,
--- the plan has the answer of `all` at each index of each batch.
-pub record AreTold (old new : PipelineBatches) (bytes : List ℕ) : Type 0 where
+-- `answers` has that of `all` at each index of each batch.
+pub record AreTold (places : List (List ℕ)) (answers : List (Result Value ErrorParts)) (bytes : List ℕ)
+    : Type 0 where
   pub given : List Answer
   pub stand : StandAsTold bytes [] given
-  pub long : length given ≡ length (concat old.batches.places)
-  pub right : (all : List Answer) → AreByBatch old.batches all given → (batch : ℕ)
-      (places : List ℕ) → slice_get old.batches.places batch ≡ Some places
-      → All (IsRight new.batches.answers all) places
+  pub long : length given ≡ length (concat places)
+  pub right : (all : List Answer) → length all ≡ length answers
+      → given ≡ in_order all (concat places) → (batch : ℕ) (own : List ℕ)
+      → slice_get places batch ≡ Some own → All (IsRight answers all) own

@@ -1,15 +1,45 @@
-ghost use Rattle.std.specs.Prelude.{◌≡◌, ◌++◌, ℕ, List, map, length, IfOk, IfErr};
+ghost use Rattle.std.specs.Prelude.{◌≡◌, ◌<◌, ◌++◌, ℕ, List, map, length, IfOk, IfErr};
+ghost use Rattle.std.specs.List.{All};
 ghost use Rattle.resp_core.specs.Answer.{answer_of};
 ghost use Rattle.redis_bytes.specs.Replies.{IsAnswer};
-ghost use Rattle.redis_batch_bytes.specs.Replies.{StandAsTold};
+ghost use Rattle.redis_batch_bytes.specs.Replies.{AreTold, StandAsTold};
 ghost use Rattle.redis_batch_bytes.specs.Told.{WireAnswer, answer_of_wire};
-ghost use Rattle.redis_batch_bytes.specs.Unread.{IsNoAnswer, IsUnreadAnswer};
+ghost use Rattle.redis_batch_bytes.specs.Unread.{AreUnreadAnswers, IsNoAnswer, IsUnreadAnswer};
 
 use crate::errors::told;
 use crate::fault::BatchFault;
+use redis_batches::{no_answers, put_answers};
 use resp::{ReadError, read};
 use resp_core::{RedisError, Value};
 use std::alloc::Global;
+
+/// The answers to `count` parts, by those to the batches of these places, which the bytes are, batch
+/// after batch.
+pub(super) fn answers_in(
+    alloc: Global,
+    places: &[Vec<usize>],
+    count: usize,
+    bytes: &[u8],
+) -> Result<Vec<Result<Value, RedisError>>, BatchFault>
+    requires within { All (λ own. All (λ place. place < count) own) (map (λ v. v.items) places.now) }
+    ensures told { IfOk result (λ answers.
+        AreTold (map (λ v. v.items) places.now) answers.items bytes.now) }
+    ensures room { IfOk result (λ answers. length answers.items ≡ count) }
+    ensures fault { IfErr result (λ fault.
+        AreUnreadAnswers (map (λ v. v.items) places.now) bytes.now fault) }
+{
+    let mut answers = no_answers(alloc, count)?;
+    let mut rest = bytes;
+    for (batch, own) in places.iter().enumerate() {
+        let (given, after) = answers_at(alloc, batch, own.len(), rest)?;
+        put_answers(&mut answers, given, own);
+        rest = after;
+    }
+    if !rest.is_empty() {
+        return Err(BatchFault::AfterReplies(bytes.len() - rest.len()));
+    }
+    Ok(answers)
+}
 
 /// The answers to a batch of `count` commands, at the front of the bytes, and what follows them.
 pub(super) fn answers_at(

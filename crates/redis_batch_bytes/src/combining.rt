@@ -1,16 +1,23 @@
-ghost use Rattle.std.specs.Prelude.{◌≡◌, false, IfOk, IfErr};
-ghost use Rattle.std.specs.List.{All};
+ghost use Rattle.std.specs.Prelude.{◌≡◌, ◌⊎◌, List, length, map, IfOk, IfErr};
+ghost use Rattle.std.specs.List.{flat_map, sum_by};
+ghost use Rattle.resp_core.specs.Answer.{Answer, answer_of};
+ghost use Rattle.resp_core.specs.declared.error.ErrorKind.TheVariants.{OutOfMemory};
 ghost use Rattle.redis_batches.specs.PipelinePlan.{PipelineBatches};
-ghost use Rattle.redis_batch_bytes.specs.Plans.{EachIsSent, IsPlanOfRequests};
-ghost use Rattle.redis_batch_bytes.specs.Replies.{RepliesAreWritten, PipelineIsUncombined, IsUncombinedBy};
+ghost use Rattle.redis_batches.specs.Replies.{AreRepliesFor, part_count};
+ghost use Rattle.redis_batch_bytes.specs.Plans.{IsPlanOfRequests};
+ghost use Rattle.redis_batch_bytes.specs.Replies.{AreUnwritten, PipelineIsUncombined, RepliesAreWritten};
+ghost use Rattle.redis_batch_bytes.specs.Told.{answer_form};
 
-use crate::commands::commands_in;
+use crate::answers::answers_in;
 use crate::fault::BatchFault;
-use crate::planning::{plan_of, tasks_by};
-use crate::telling::tell_all;
+use crate::plan::plan_by;
+use crate::requests::requests_in;
+use crate::tasks::tasks_of;
 use crate::writing::written;
-use redis_batches::PipelinePlan;
-use redis_routing::Registry;
+use redis_batches::reply_of;
+use redis_bytes::Request;
+use redis_routing::{Registry, SplitCommand};
+use resp_core::{RedisError, RedisResult, Value};
 use std::alloc::Global;
 
 /// The replies to the requests of a pipeline, one after another, by the replies to its batches.
@@ -41,23 +48,49 @@ pub fn combine_pipeline(
     ensures fault { IfErr result (λ fault.
         PipelineIsUncombined registry.now numbers.now requests.now replies.now fault) }
 {
-    let commands = commands_in(alloc, requests)?;
-    let (tasks, nodes) = tasks_by(alloc, commands.as_slice(), registry, numbers)?;
-    let plan = plan_of(alloc, tasks, nodes.as_slice())?;
-    combined(alloc, plan, replies)
+    let requests = requests_in(alloc, requests)?;
+    let tasks = tasks_of(alloc, &requests, registry)?;
+    let plan = plan_by(alloc, &tasks, numbers)?;
+    let answers = answers_in(alloc, &plan.places, tasks.parts.len(), replies)?;
+    combined(alloc, &tasks.splits, answers)
 }
 
-/// The replies to the commands of a plan, as bytes, by the replies to its batches.
-fn combined(alloc: Global, plan: PipelinePlan<'_>, replies: &[u8]) -> Result<Vec<u8>, BatchFault>
-    requires untold { All (λ told. told ≡ false) plan.batches.told }
-    requires sent { EachIsSent plan.batches }
-    ensures combined { IfOk result (λ combined. RepliesAreWritten plan.entry replies.now combined.items) }
-    ensures fault { IfErr result (λ fault. IsUncombinedBy plan.entry replies.now fault) }
+/// The bytes of the replies to commands, by the answers to their parts.
+fn combined(
+    alloc: Global,
+    splits: &[Option<SplitCommand<'_, Request<'_>>>],
+    answers: Vec<Result<Value, RedisError>>,
+) -> Result<Vec<u8>, BatchFault>
+    requires long { sum_by part_count splits.now ≡ length answers.items }
+    ensures combined { IfOk result (λ combined. (replies : List Answer)
+        × AreRepliesFor splits.now (map answer_of answers.items) replies
+        × (combined.items ≡ flat_map answer_form replies)) }
+    ensures fault { IfErr result (λ fault. (fault ≡ BatchFault.Memory) ⊎ ((replies : List Answer)
+        × AreRepliesFor splits.now (map answer_of answers.items) replies
+        × AreUnwritten replies fault)) }
 {
-    let mut plan = plan;
-    tell_all(alloc, &mut plan, replies)?;
-    match plan.combine(alloc) {
-        Ok(found) => written(alloc, found.as_slice()),
+    match replies_of(alloc, splits, answers) {
+        Ok(replies) => written(alloc, &replies),
         Err(_) => Err(BatchFault::Memory),
     }
+}
+
+/// The answer to each command, by those to the parts of all, in the order of the parts.
+fn replies_of(
+    alloc: Global,
+    splits: &[Option<SplitCommand<'_, Request<'_>>>],
+    mut answers: Vec<Result<Value, RedisError>>,
+) -> RedisResult<Vec<Result<Value, RedisError>>>
+    requires long { sum_by part_count splits.now ≡ length answers.items }
+    ensures replies { IfOk result (λ replies.
+        AreRepliesFor splits.now (map answer_of answers.items) (map answer_of replies.items)) }
+    ensures memory { IfErr result (λ error. error.kind ≡ OutOfMemory) }
+{
+    let mut replies = Vec::with_capacity(alloc, splits.len())?;
+    // The last command first, so that the answers to its parts are at the end of the list.
+    for number in (0..splits.len()).rev() {
+        replies.push(reply_of(alloc, splits[number].as_ref(), &mut answers)?)?;
+    }
+    replies.reverse();
+    Ok(replies)
 }

@@ -3,13 +3,13 @@
 
 mod answers;
 mod combining;
-mod commands;
 mod errors;
 mod fault;
-mod planning;
+mod plan;
+mod requests;
 mod several;
 mod splitting;
-mod telling;
+mod tasks;
 mod writing;
 
 pub use combining::combine_pipeline;

@@ -1,19 +1,20 @@
-ghost use Rattle.std.specs.Prelude.{◌≡◌, ◌<◌, ◌++◌, ℕ, List, Some, map, length, slice_get, IfOk, OnOk, IfErr};
-ghost use Rattle.std.specs.List.{flat_map};
+ghost use Rattle.std.specs.Prelude.{◌≡◌, ◌<◌, ◌++◌, List, map, length, option_copied, IfOk, IfSome, OnOk, IfErr};
+ghost use Rattle.std.specs.List.{All};
 ghost use Rattle.resp.specs.Forms.{request};
-ghost use Rattle.resp_core.specs.ItemEnds.{item_ends};
-ghost use Rattle.redis_batches.specs.Plan.{IsPlan};
+ghost use Rattle.redis_routing.specs.Registry.{Registrations};
 ghost use Rattle.redis_batches.specs.PipelinePlan.{PipelineBatches};
-ghost use Rattle.redis_batch_bytes.specs.Plans.{IsPlanOfRequests, IsUnplanned};
+ghost use Rattle.redis_bytes.specs.Requests.{Words};
 ghost use Rattle.redis_batch_bytes.specs.Batches.{AreBatchesOf, batch_bytes};
+ghost use Rattle.redis_batch_bytes.specs.Parted.{AreParted, AreWordsOf, IsOwnSplit, IsWordsOf};
+ghost use Rattle.redis_batch_bytes.specs.Numbered.{batches_of};
+ghost use Rattle.redis_batch_bytes.specs.Plans.{IsPlanOfRequests, IsUnplanned};
 
-use crate::commands::commands_in;
 use crate::fault::BatchFault;
-use crate::planning::{plan_of, tasks_by};
-use redis_batches::PipelinePlan;
-use redis_routing::Registry;
-use resp::push_command;
-use resp_core::Cmd;
+use crate::plan::{Plan, plan_by};
+use crate::requests::requests_in;
+use crate::tasks::{Tasks, tasks_of};
+use redis_bytes::{Request, push_part};
+use redis_routing::{Registry, SplitCommand};
 use std::alloc::{AllocError, Global};
 
 /// The batches of a pipeline, in the order in which their nodes first appear.
@@ -57,18 +58,38 @@ pub fn split_pipeline(
     ensures fault { IfErr result (λ fault.
         IsUnplanned registry.now numbers.now requests.now fault) }
 {
-    let commands = commands_in(alloc, requests)?;
-    let (tasks, nodes) = tasks_by(alloc, commands.as_slice(), registry, numbers)?;
-    let plan = plan_of(alloc, tasks, nodes.as_slice())?;
-    Ok(batches_of(alloc, &plan, requests.len())?)
+    let room = requests.len();
+    let requests = requests_in(alloc, requests)?;
+    let tasks = tasks_of(alloc, &requests, registry)?;
+    let plan = plan_by(alloc, &tasks, numbers)?;
+    Ok(written(alloc, &requests, &tasks, plan, room)?)
 }
 
-/// The batches of a plan, which have about `room` bytes.
-fn batches_of(alloc: Global, plan: &PipelinePlan<'_>, room: usize) -> Result<BatchBytes, AllocError>
-    ensures { IfOk result (λ found. AreBatchesOf plan.now.batches found) }
+/// The bytes of the batches of a plan, which have about `room` bytes.
+fn written(
+    alloc: Global,
+    requests: &[Request<'_>],
+    tasks: &Tasks<'_, '_>,
+    plan: Plan,
+    room: usize,
+) -> Result<BatchBytes, AllocError>
+    requires kept { (registered : Registrations)
+        × AreParted registered requests.now tasks.now.splits.items tasks.now.parts.items }
+    requires within { All (λ own. All (λ place. place < length tasks.now.parts.items) own)
+        (map (λ v. v.items) plan.places.items) }
+    ensures { IfOk result (λ found. (words : List Words)
+        → AreWordsOf requests.now tasks.now.splits.items tasks.now.parts.items words
+        → AreBatchesOf (batches_of plan.nodes.items (map (λ v. v.items) plan.places.items) words) found) }
 {
-    let nodes = numbers_of(alloc, plan)?;
-    let (counts, ends, bytes) = written(alloc, plan, room)?;
+    let Plan { nodes, places } = plan;
+    let mut counts = Vec::with_capacity(alloc, places.len())?;
+    let mut ends = Vec::with_capacity(alloc, places.len())?;
+    let mut bytes = Vec::with_capacity(alloc, room)?;
+    for own in &places {
+        push_batch(&mut bytes, requests, tasks, own)?;
+        counts.push(own.len())?;
+        ends.push(bytes.len())?;
+    }
     Ok(BatchBytes {
         nodes,
         counts,
@@ -77,73 +98,43 @@ fn batches_of(alloc: Global, plan: &PipelinePlan<'_>, room: usize) -> Result<Bat
     })
 }
 
-/// The number of each batch's node.
-fn numbers_of(alloc: Global, plan: &PipelinePlan<'_>) -> Result<Vec<u16>, AllocError>
-    ensures { IfOk result (λ numbers.
-        numbers.items ≡ map (λ node. node.port) plan.now.batches.nodes) }
-{
-    let mut numbers = Vec::with_capacity(alloc, plan.len())?;
-    for number in 0..plan.len() {
-        let Some(node) = plan.node(number) else {
-            unreachable!()
-        };
-        numbers.push(node.port())?;
-    }
-    Ok(numbers)
-}
-
-/// How many commands each batch has, where its bytes end, and the bytes of all.
-fn written(
-    alloc: Global,
-    plan: &PipelinePlan<'_>,
-    room: usize,
-) -> Result<(Vec<usize>, Vec<usize>, Vec<u8>), AllocError>
-    ensures counts { IfOk result (λ x. x.0.items ≡ map length plan.now.batches.places) }
-    ensures ends { IfOk result (λ x. x.1.items
-        ≡ item_ends 0 (map (batch_bytes plan.now.batches.parts) plan.now.batches.places)) }
-    ensures bytes { IfOk result (λ x. x.2.items
-        ≡ flat_map (batch_bytes plan.now.batches.parts) plan.now.batches.places) }
-{
-    let mut counts = Vec::with_capacity(alloc, plan.len())?;
-    let mut ends = Vec::with_capacity(alloc, plan.len())?;
-    let mut bytes = Vec::with_capacity(alloc, room)?;
-    for number in 0..plan.len() {
-        let count = push_batch(alloc, plan, number, &mut bytes)?;
-        counts.push(count)?;
-        ends.push(bytes.len())?;
-    }
-    Ok((counts, ends, bytes))
-}
-
-/// Adds the requests of a batch, and returns their number.
+/// Adds the requests of the parts at these places.
 fn push_batch(
-    alloc: Global,
-    plan: &PipelinePlan<'_>,
-    number: usize,
     bytes: &mut Vec<u8>,
-) -> Result<usize, AllocError>
-    requires plan { IsPlan plan.now.batches }
-    requires within { number < length plan.now.batches.places }
-    ensures count { IfOk result (λ count. (places : List ℕ)
-        → slice_get plan.now.batches.places number ≡ Some places → count ≡ length places) }
-    ensures bytes { OnOk result ((places : List ℕ)
-        → slice_get plan.now.batches.places number ≡ Some places
-        → bytes.new.items ≡ bytes.old.items ++ batch_bytes plan.now.batches.parts places) }
+    requests: &[Request<'_>],
+    tasks: &Tasks<'_, '_>,
+    places: &[usize],
+) -> Result<(), AllocError>
+    requires kept { (registered : Registrations)
+        × AreParted registered requests.now tasks.now.splits.items tasks.now.parts.items }
+    requires within { All (λ place. place < length tasks.now.parts.items) places.now }
+    ensures { OnOk result ((words : List Words)
+        → AreWordsOf requests.now tasks.now.splits.items tasks.now.parts.items words
+        → bytes.new.items ≡ bytes.old.items ++ batch_bytes words places.now) }
 {
-    let Some(batch) = plan.batch(alloc, number)? else {
-        unreachable!()
-    };
-    push_commands(batch.as_slice(), bytes)?;
-    Ok(batch.len())
-}
-
-/// Adds the requests of some commands, one after the other.
-fn push_commands(commands: &[&Cmd], bytes: &mut Vec<u8>) -> Result<(), AllocError>
-    ensures { OnOk result (bytes.new.items
-        ≡ bytes.old.items ++ flat_map request (map (λ command. command.now) commands.now)) }
-{
-    for command in commands {
-        push_command(bytes, *command)?;
+    for place in places {
+        let part = tasks.parts[*place];
+        let split = tasks.splits[part.command].as_ref();
+        push_request(bytes, &requests[part.command], split, part.route)?;
     }
     Ok(())
+}
+
+/// Adds the request of a part: the command's own, or that of the route of this number.
+fn push_request(
+    bytes: &mut Vec<u8>,
+    command: &Request<'_>,
+    split: Option<&SplitCommand<'_, Request<'_>>>,
+    route: usize,
+) -> Result<(), AllocError>
+    requires own { IsOwnSplit command.now (option_copied split) }
+    requires within { IfSome (option_copied split) (λ split. route < length split.routes) }
+    ensures { OnOk result ((part : Words)
+        × IsWordsOf command.now (option_copied split.entry) route part
+        × (bytes.new.items ≡ bytes.old.items ++ request part)) }
+{
+    match split {
+        Some(split) => push_part(bytes, split, command, route),
+        None => bytes.extend_from_slice(command.bytes()),
+    }
 }

@@ -29,7 +29,7 @@ use Rattle.redis_cluster.proofs.SplitParts.{command_of_routes, is_made, no_comma
 use Rattle.redis_batches.specs.Pipeline.{Task, in_slot, over_keys}
 use Rattle.redis_batches.specs.Taken.{task_of}
 use Rattle.redis_batches.specs.Tasks.{AreTasksOf, IsSplitOfTask, part_arguments}
-use Rattle.redis_batches.specs.CommandTask.{IsKeptOf, IsTaskFor, SlotPart, slot_parts}
+use Rattle.redis_batches.specs.CommandTask.{IsKeptOf, IsMeaning, IsTaskFor, SlotPart, slot_parts}
 use Rattle.redis_batches.specs.Pipelined.{IsFirstMeaningless}
 use Rattle.redis_batches.specs.declared.task.CommandTask.{CommandTask}
 use Rattle.redis_batches.proofs.ByNode.{map_map}
@@ -45,6 +45,13 @@ pub means_slot : (registered : Registrations) (args : List (List ℕ)) (slot : O
 means_slot registered args slot none routed =
     ap (task_by registered args) (no_command (names_of [] registered) (map Some args) none)
     ∙ ap (option_map (λ s. in_slot s args)) (sym (slot_is_routed (names_of [] registered) (map Some args)) ∙ routed)
+
+pub meant_slot : (registered : Registrations) (args : List (List ℕ)) (slot : Option ℕ) → multi_slot_routes (names_of [] registered) (map Some args) ≡ None
+    → slot_routed (routing (names_of [] registered) (map Some args)) ≡ slot → IsMeaning registered args None slot
+meant_slot registered args None none routed = means_slot registered args None none routed
+meant_slot registered args (Some slot) none routed = λ command is.
+    let means : task_of registered args ≡ Some (in_slot slot args) = means_slot registered args (Some slot) none routed in
+    (in_slot slot args, means, (ap (in_slot slot) (sym is), ap (task_of registered) is ∙ means), ap (λ a. map Some a ∷ []) is)
 
 module _ (names : Names) (args : Arguments) (split : Split) (arguments : split.arguments ≡ args) (routes : Some split.routes ≡ multi_slot_routes names args)
     (pattern : Some split.pattern ≡ pattern_by_name names.registered (command_name args)) (policy : Some split.policy ≡ policy_by_name names.registered (command_name args)) (held : IsSplit split) where

@@ -48,7 +48,7 @@ zip_maps : {X A B : Type 0} (R : A → B → Type 0) (f : X → A) (g : X → B)
 zip_maps R f g [] all = tt
 zip_maps R f g (x ∷ xs) all = (All-head (λ y. R (f y) (g y)) x xs all, zip_maps R f g xs (All-tail (λ y. R (f y) (g y)) x xs all))
 
-unsome : (xs ys : List (List ℕ)) → map Some xs ≡ map Some ys → xs ≡ ys
+pub unsome : (xs ys : List (List ℕ)) → map Some xs ≡ map Some ys → xs ≡ ys
 unsome [] [] e = refl
 unsome [] (y ∷ ys) e = absurd (cc e)
 unsome (x ∷ xs) [] e = absurd (cc e)

@@ -1,4 +1,5 @@
 -- What a plan keeps of a command: its slot, or its split.
+use denote.Ref.{Bor}
 use Rattle.std.specs.Prelude.{◌≡◌, ℕ, List, [], ◌∷◌, Option, None, Some, map}
 use Rattle.redis_routing.specs.Command.{Arguments}
 use Rattle.redis_routing.specs.Complete.{multi_slot_routes}
@@ -55,3 +56,12 @@ abbrev pub IsTaskFor : Registrations → List (List ℕ) → CommandTask → Typ
 IsTaskFor registered args kept =
     (task : Task) × (task_of registered args ≡ Some task) × IsKeptOf registered task kept
     × (map (λ part. part.1) (slot_parts kept) ≡ part_arguments registered args task)
+
+-- what the command with these arguments means in a pipeline: it is split like this, or keeps to this
+-- slot, or means nothing
+abbrev pub IsMeaning : Registrations → List (List ℕ) → Option Split → Option ℕ → Type 0
+IsMeaning registered args (Some split) slot =
+    (split.arguments ≡ map Some args) × IsTaskFor registered args (OverKeys split)
+IsMeaning registered args None (Some slot) = (command : Bor (List (List ℕ))) → command.now ≡ args
+    → IsTaskFor registered args (InSlot slot command)
+IsMeaning registered args None None = task_of registered args ≡ None

@@ -52,8 +52,13 @@ fn number_of<'a>(
     }
 }
 
-/// For each number below `count` the places at which it stands, in order.
-pub(super) fn places_by_number(
+/// For each number below `count` the places at which it stands, in order. Of 0, 1, 0 these are 0 and
+/// 2, and 1.
+///
+/// # Errors
+///
+/// If memory runs out.
+pub fn places_by_number(
     alloc: Global,
     count: usize,
     numbers: &[usize],

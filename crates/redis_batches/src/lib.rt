@@ -21,8 +21,11 @@ mod task;
 
 pub use drive::drive_pipeline;
 pub use fault::{PipelineError, PipelineFault};
+pub use grouping::places_by_number;
 pub use nodes::BatchNodes;
 pub use pipeline::PipelinePlan;
+pub use plan::{no_answers, put_answers};
+pub use replies::reply_of;
 pub use retrying::drive_pipeline_retrying;
 pub use send::Stopped;
-pub use task::{CommandTask, command_of, slots_of, tasks_of};
+pub use task::meaning_of;

@@ -138,12 +138,8 @@ impl<'a> PipelinePlan<'a> {
     }
 
     /// Plans commands by what is kept of each, and by the node of each part, in the order of
-    /// `slots_of`. So a caller with a table of its own says where each slot is.
-    ///
-    /// # Errors
-    ///
-    /// If memory runs out.
-    pub fn of_tasks(
+    /// `slots_of`.
+    fn of_tasks(
         alloc: Global,
         tasks: Vec<CommandTask<'a>>,
         targets: Vec<&'a NodeAddress>,

@@ -33,10 +33,11 @@ pub(super) fn all_set(flags: &[bool]) -> bool
 }
 
 /// Room for this many answers.
-pub(super) fn no_answers(
-    alloc: Global,
-    count: usize,
-) -> Result<Vec<Result<Value, RedisError>>, AllocError>
+///
+/// # Errors
+///
+/// If memory runs out.
+pub fn no_answers(alloc: Global, count: usize) -> Result<Vec<Result<Value, RedisError>>, AllocError>
     ensures { IfOk result (λ answers. length answers.items ≡ count) }
 {
     let mut answers = Vec::with_capacity(alloc, count)?;
@@ -47,7 +48,7 @@ pub(super) fn no_answers(
 }
 
 /// Moves each answer to its place.
-pub(super) fn put_answers(
+pub fn put_answers(
     out: &mut Vec<Result<Value, RedisError>>,
     mut answers: Vec<Result<Value, RedisError>>,
     places: &[usize],

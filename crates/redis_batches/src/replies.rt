@@ -1,4 +1,4 @@
-ghost use Rattle.std.specs.Prelude.{◌≡◌, ◌≤◌, ◌++◌, Result, map, length, IfOk, IfErr, reverse};
+ghost use Rattle.std.specs.Prelude.{◌≡◌, ◌≤◌, ◌++◌, Result, map, length, option_copied, IfOk, IfErr, reverse};
 ghost use Rattle.std.specs.List.{sum_by};
 ghost use Rattle.resp_core.specs.Answer.{answer_of};
 ghost use Rattle.resp_core.specs.View.{view};
@@ -9,8 +9,8 @@ ghost use Rattle.redis_batches.specs.Replies.{AreRepliesFor, IsSplitReply, IsTak
 
 use crate::task::CommandTask;
 use redis_cluster::driver::join_replies;
-use redis_routing::SplitCommand;
-use resp_core::{Cmd, ErrorKind, RedisError, RedisResult, Value};
+use redis_routing::{Routable, SplitCommand};
+use resp_core::{ErrorKind, RedisError, RedisResult, Value};
 use std::alloc::{AllocError, Global};
 
 /// So many last answers, the last one first. They are taken out.
@@ -52,9 +52,9 @@ fn values_in(
 }
 
 /// The one reply of those to the parts, or the error that they can't be combined.
-fn joined_reply(
+fn joined_reply<R: Routable>(
     alloc: Global,
-    split: &SplitCommand<'_, Cmd>,
+    split: &SplitCommand<'_, R>,
     values: Vec<Value>,
 ) -> RedisResult<Result<Value, RedisError>>
     requires len { length values.items ≡ length split.now.routes }
@@ -77,9 +77,9 @@ fn joined_reply(
 /// The answer to a split command, by those to its parts, of which the last one comes first. It is the
 /// error of the first part that has one, or else what is made of the replies: `DEL a b` whose parts
 /// answer 1 and 1 answers 2.
-fn split_reply(
+fn split_reply<R: Routable>(
     alloc: Global,
-    split: &SplitCommand<'_, Cmd>,
+    split: &SplitCommand<'_, R>,
     answers: Vec<Result<Value, RedisError>>,
 ) -> RedisResult<Result<Value, RedisError>>
     requires len { length answers.items ≡ length split.now.routes }
@@ -94,28 +94,29 @@ fn split_reply(
 }
 
 /// The answer to a command, by those to its parts, which are the last of these. They are taken out.
-fn reply_of(
+/// A command that has no split is one part.
+///
+/// # Errors
+///
+/// `OutOfMemory`. Answers may be used up then, too.
+pub fn reply_of<R: Routable>(
     alloc: Global,
-    task: &CommandTask<'_>,
+    split: Option<&SplitCommand<'_, R>>,
     answers: &mut Vec<Result<Value, RedisError>>,
 ) -> RedisResult<Result<Value, RedisError>>
-    requires room { part_count (split_in task.now) ≤ length answers.old.items }
+    requires room { part_count (option_copied split) ≤ length answers.old.items }
     ensures reply { IfOk result (λ reply.
-        IsTakenFor (split_in task.now) answers.old.items answers.new.items reply) }
+        IsTakenFor (option_copied split.entry) answers.old.items answers.new.items reply) }
     ensures memory { IfErr result (λ error. error.kind ≡ OutOfMemory) }
 {
-    match task {
-        CommandTask::InSlot(_, _) => {
-            let Some(answer) = answers.pop() else {
-                unreachable!()
-            };
-            Ok(answer)
-        }
-        CommandTask::OverKeys(split) => {
-            let own = last_answers(alloc, split.routes().len(), answers)?;
-            split_reply(alloc, split, own)
-        }
-    }
+    let Some(split) = split else {
+        let Some(answer) = answers.pop() else {
+            unreachable!()
+        };
+        return Ok(answer);
+    };
+    let own = last_answers(alloc, split.routes().len(), answers)?;
+    split_reply(alloc, split, own)
 }
 
 /// The answer to each command, by those to the parts of all, in the order of the parts. Of
@@ -137,7 +138,7 @@ pub(super) fn replies_of(
     let mut replies = Vec::with_capacity(alloc, tasks.len())?;
     // The last command first, so that the answers to its parts are at the end of the list.
     for number in (0..tasks.len()).rev() {
-        replies.push(reply_of(alloc, &tasks[number], &mut answers)?)?;
+        replies.push(reply_of(alloc, tasks[number].split(), &mut answers)?)?;
     }
     replies.reverse();
     Ok(replies)

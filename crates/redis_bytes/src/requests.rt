@@ -1,5 +1,6 @@
-ghost use Rattle.std.specs.Prelude.{◌≡◌, Some, map, length, IfOk, IfErr, MatchResult};
+ghost use Rattle.std.specs.Prelude.{◌≡◌, ◌++◌, ℕ, List, Some, map, length, IfOk, IfErr, MatchResult};
 ghost use Rattle.resp.specs.Forms.{IsRequest};
+ghost use Rattle.resp.specs.Requests.{RequestErrorCause};
 ghost use Rattle.redis_routing.specs.Command.{is_word};
 ghost use Rattle.redis_bytes.specs.Requests.{Words, IsUnread};
 
@@ -12,16 +13,49 @@ use std::marker::Model;
 /// A request that is read in place: its arguments are pieces of its bytes.
 #[derive(Drop)]
 pub struct Request<'a> {
-    pub(super) args: Vec<&'a [u8]>,
+    bytes: &'a [u8],
+    args: Vec<&'a [u8]>,
 }
 
 impl<'a> Model for Request<'a> {
     ghost use Rattle.std.specs.Prelude.{map};
+    ghost use Rattle.resp.specs.Forms.{IsRequest};
     ghost use Rattle.redis_bytes.specs.Requests.{Words};
 
     ghost Value = { Words };
 
     ghost view = { λ request. map (λ arg. arg.now) request.args.items };
+
+    ghost invariant = { λ request.
+        IsRequest (map (λ arg. arg.now) request.args.items) request.bytes.now };
+}
+
+impl<'a> Request<'a> {
+    /// The request at the front of the bytes, and what follows it. `*1\r\n$4\r\nPING\r\n` has the one
+    /// argument `PING`.
+    ///
+    /// # Errors
+    ///
+    /// As `resp::read_request`.
+    pub fn read(alloc: Global, bytes: &'a [u8]) -> Result<(Self, &'a [u8]), RequestError>
+        ensures found { IfOk result (λ x. (form : List ℕ)
+            × (bytes.now ≡ form ++ x.1.now) × IsRequest x.0 form) }
+        ensures only { (words : Words) (form rest : List ℕ) → IsRequest words form
+            → bytes.now ≡ form ++ rest
+            → MatchResult result (λ x. (x.0 ≡ words) × (x.1.now ≡ rest)) (λ e. e ≡ RequestError.Memory) }
+        ensures cause { IfErr result (λ e. RequestErrorCause bytes.now e) }
+    {
+        let (args, rest) = read_args(alloc, bytes)?;
+        let (own, _) = bytes.split_at(bytes.len() - rest.len());
+        Ok((Request { bytes: own, args }, rest))
+    }
+
+    /// The bytes of the request.
+    pub fn bytes(&self) -> &'a [u8]
+        ensures { IsRequest self.now result.now }
+    {
+        self.bytes
+    }
 }
 
 impl<'a> Routable for Request<'a> {
@@ -56,7 +90,7 @@ pub(super) fn request_in(alloc: Global, bytes: &[u8]) -> Result<Request<'_>, Byt
         → MatchResult result (λ request. request ≡ words) (λ fault. fault ≡ BytesFault.Memory) }
     ensures fault { IfErr result (λ fault. IsUnread bytes.now fault) }
 {
-    let (args, rest) = match read_args(alloc, bytes) {
+    let (request, rest) = match Request::read(alloc, bytes) {
         Ok(found) => found,
         Err(RequestError::Memory) => return Err(BytesFault::Memory),
         Err(RequestError::Fault(fault)) => return Err(BytesFault::Request(fault)),
@@ -64,5 +98,5 @@ pub(super) fn request_in(alloc: Global, bytes: &[u8]) -> Result<Request<'_>, Byt
     if !rest.is_empty() {
         return Err(BytesFault::AfterRequest(bytes.len() - rest.len()));
     }
-    Ok(Request { args })
+    Ok(request)
 }

@@ -1,4 +1,4 @@
-ghost use Rattle.std.specs.Prelude.{◌≡◌, ◌+◌, ◌≤◌, ◌++◌, [], Some, map, option_copied, IfOk, IfErr, IfSome, OnOk, MatchResult};
+ghost use Rattle.std.specs.Prelude.{◌≡◌, ◌+◌, ◌<◌, ◌≤◌, ◌++◌, [], Some, length, map, option_copied, IfOk, IfErr, IfSome, OnOk, MatchResult};
 ghost use Rattle.std.specs.List.{flat_map, range_with_len};
 ghost use Rattle.resp.specs.Forms.{bulk_form, request};
 ghost use Rattle.cluster_slots.specs.Lists.{all_some};
@@ -6,7 +6,7 @@ ghost use Rattle.redis_routing.specs.Command.{argument};
 ghost use Rattle.redis_routing.specs.SubCommand.{sub_command_after};
 ghost use Rattle.redis_routing.specs.Names.{names_in};
 ghost use Rattle.redis_routing.specs.RoutingInfo.{route_lists};
-ghost use Rattle.redis_routing.specs.Split.{Split, slots_of, split_part};
+ghost use Rattle.redis_routing.specs.Split.{Split, route_part, slots_of, split_part};
 ghost use Rattle.redis_bytes.specs.Requests.{IsSplitRequest, AreParts, AreWritten, IsUnsplit, Words};
 
 use crate::fault::BytesFault;
@@ -95,17 +95,36 @@ fn push_parts(
     ensures { IfOk result (λ ends.
         AreWritten (map (split_part split.now) (slots_of split.now.routes)) ends.items out.new.items) }
 {
-    let words = name_words(command);
     let mut ends = Vec::with_capacity(alloc, split.len())?;
-    for (_, indices) in split.routes() {
-        push_part(out, command, words, indices)?;
+    for number in 0..split.len() {
+        push_part(out, split, command, number)?;
         ends.push(out.len())?;
     }
     Ok(ends)
 }
 
+/// Appends the request of a part of a split command, by the number of its route. Of `DEL foo bar`
+/// part 1 is `DEL bar`.
+///
+/// # Errors
+///
+/// If memory runs out. Then the buffer may end with a beginning of the request.
+pub fn push_part(
+    out: &mut Vec<u8>,
+    split: &SplitCommand<'_, Request<'_>>,
+    command: &Request<'_>,
+    number: usize,
+) -> Result<(), AllocError>
+    requires command { split.now.arguments ≡ map Some command.now }
+    requires within { number < length split.now.routes }
+    ensures { OnOk result ((part : Words) × (Some (map Some part) ≡ route_part split.now number)
+        × (out.new.items ≡ out.old.items ++ request part)) }
+{
+    push_args(out, command, name_words(command), &split.routes()[number].1)
+}
+
 /// Appends the request of the words of a name and the arguments at these indices after them.
-fn push_part(
+fn push_args(
     out: &mut Vec<u8>,
     command: &Request<'_>,
     words: usize,

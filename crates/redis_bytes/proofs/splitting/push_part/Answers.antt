@@ -1,24 +1,19 @@
-use Rattle.std.proofs.Common.{◌≡◌, ◌++◌, ◌+◌, ℕ, List, Some, arith, map, take, get_or, subst, sym}
-use Rattle.std.specs.Prelude.{IfSome}
-use Rattle.std.proofs.lemmas.List.{map_more, take_all}
-use Rattle.resp.specs.Forms.{bulk_form}
-use Rattle.redis_routing.specs.Command.{Arguments, argument}
-use Rattle.redis_bytes.proofs.PartArguments.{Adds, adds_next, request_added}
+use Rattle.std.proofs.Common.{◌≡◌, ◌∙◌, ℕ, Some, ap, map, sym}
+use Rattle.std.proofs.lemmas.Result.{on_ok_weaker}
+use Rattle.redis_routing.specs.Command.{Arguments}
+use Rattle.redis_routing.specs.NameWords.{name_words_of}
+use Rattle.redis_routing.specs.SubCommand.{sub_command_after}
+use Rattle.redis_routing.proofs.Picks.{route_sub_command}
 use Rattle.redis_bytes.proofs.splitting.push_part.Goals as goal
-
-pub loop-index-preserved : goal.loop-index-preserved
-loop-index-preserved c =
-    let args = map Some c.args.command.now in
-    let read : ℕ → _ = λ i. argument args (i + c.args.words) in
-    let n = c.loop-index.index-index in
-    let more = c.push_arg.new.out.items in
-    let pushed = subst (λ arg. IfSome arg (λ text. more ≡ c.loop-index.out.items ++ bulk_form text)) c.arg_after.ensures c.in_ok-push_arg.ensures in
-    subst (λ (xs : Arguments). Adds c.push_name.new.out.items xs more) (sym (map_more read c.args.indices.now n 0 c.loop-index-test.true))
-    (adds_next c.push_name.new.out.items (map read (take n c.args.indices.now)) (read (get_or c.args.indices.now n 0)) c.loop-index.out.items more c.loop-index.invariant pushed)
 
 pub returns : goal.returns
 returns c =
     let args = map Some c.args.command.now in
-    let indices = c.args.indices.now in
-    let all = subst (λ (is : List ℕ). Adds c.push_name.new.out.items (map (λ i. argument args (i + c.args.words)) is) c.loop-index.out.items) (take_all c.loop-index.index-index indices (omega arith)) c.loop-index.invariant in
-    request_added c.args.words args indices c.args.out.now.items c.push_array_line.new.out.items c.push_name.new.out.items c.loop-index.out.items c.in_ok-push_array_line.ensures.line c.in_ok-push_name.ensures all
+    let route = c.index-routes-number.result in
+    let whole = route_sub_command c.args.split.now c.routes.ensures.split c.routes.result.now c.args.number route c.routes.ensures.routes c.requires.within c.index-routes-number.is in
+    let part = whole.0 in
+    let asked : sub_command_after c.name_words.result args c.deref.result.now ≡ Some part =
+    ap (λ (w : ℕ). sub_command_after w args c.deref.result.now) c.name_words.ensures
+    ∙ ap (sub_command_after (name_words_of args) args) (c.deref.ensures.value ∙ ap (λ r. r.1.items) (sym c.index-routes-number.is))
+    ∙ ap (λ (a : Arguments). sub_command_after (name_words_of a) a route.1.items) (sym c.requires.command) ∙ whole.1 in
+    on_ok_weaker c.push_args.result (λ written. (part, whole.2, written part asked)) c.push_args.ensures

@@ -4,5 +4,5 @@ use Rattle.redis_bytes.specs.Requests.{AreWritten}
 use Rattle.redis_bytes.proofs.splitting.push_parts.Given as goal
 
 -- the parts of the first slots are written
-abbrev pub invariant-loop-indices : goal.invariant-loop-indices
-invariant-loop-indices l = AreWritten (map (split_part l.split) (take l.indices-index (slots_of l.split.routes))) l.ends.items l.out.items
+abbrev pub invariant-loop-number : goal.invariant-loop-number
+invariant-loop-number l = AreWritten (map (split_part l.split) (take l.number (slots_of l.split.routes))) l.ends.items l.out.items
