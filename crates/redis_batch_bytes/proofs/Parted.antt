@@ -295,7 +295,7 @@ module _ (registered : Registrations) (commands : List Words) (splits : List (Op
 -- what is kept of a command that means this
 meant_as : (registered : Registrations) (args : Words) (split : Option Split) (slot : Option ℕ) (slots : List ℕ) → IsMeaning registered args split slot → slots_meant split slot ≡ Some slots
     → (k : CommandTask) × IsTaskFor registered args k × (split_in k ≡ split) × (slots_kept k ≡ slots) × IsOwnSplit args split
-meant_as registered args (Some split) slot slots is meant = (OverKeys split, is.1, refl, same_Some (slots_of split.routes) slots meant, is.0)
+meant_as registered args (Some split) slot slots is meant = (OverKeys split, is.2, refl, same_Some (slots_of split.routes) slots meant, is.1)
 meant_as registered args None (Some slot) slots is meant =
     let command : Bor Words = record { ref_ptr = (0, 0); now = args } in
     (InSlot slot command, is command refl, refl, same_Some (slot ∷ []) slots meant, tt)

@@ -27,6 +27,9 @@ use std::alloc::Global;
 /// An error is the reply to its command, and stops nothing. A command that was split gets the first
 /// error of its parts. Bytes of its text that are not UTF-8 come back as U+FFFD.
 ///
+/// Each reply is read and written anew. An array that holds an error becomes this error, `*-1` becomes
+/// `$-1`, and a simple string that is not UTF-8 becomes a bulk string.
+///
 /// # Errors
 ///
 /// In this order: the errors of `split_pipeline` for the requests. `Reply` for the first reply that

@@ -61,7 +61,7 @@ IsTaskFor registered args kept =
 -- slot, or means nothing
 abbrev pub IsMeaning : Registrations → List (List ℕ) → Option Split → Option ℕ → Type 0
 IsMeaning registered args (Some split) slot =
-    (split.arguments ≡ map Some args) × IsTaskFor registered args (OverKeys split)
+    (slot ≡ None) × (split.arguments ≡ map Some args) × IsTaskFor registered args (OverKeys split)
 IsMeaning registered args None (Some slot) = (command : Bor (List (List ℕ))) → command.now ≡ args
     → IsTaskFor registered args (InSlot slot command)
 IsMeaning registered args None None = task_of registered args ≡ None

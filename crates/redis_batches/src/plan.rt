@@ -1,5 +1,6 @@
-ghost use Rattle.std.specs.Prelude.{◌≡◌, ◌<◌, length, map, IfOk};
+ghost use Rattle.std.specs.Prelude.{◌≡◌, ◌<◌, Ok, length, map, replicate, IfOk};
 ghost use Rattle.std.specs.List.{All, list_all};
+ghost use Rattle.resp_core.specs.declared.value.Value.TheVariants.{Nil};
 ghost use Rattle.redis_cluster.specs.Orders.{in_order};
 ghost use Rattle.redis_batches.specs.Batched.{put_at};
 ghost use Rattle.redis_batches.specs.PartArguments.{sent_args};
@@ -32,13 +33,14 @@ pub(super) fn all_set(flags: &[bool]) -> bool
     flags.iter().all(|flag| *flag)
 }
 
-/// Room for this many answers.
+/// Room for this many answers. Each is nil.
 ///
 /// # Errors
 ///
 /// If memory runs out.
 pub fn no_answers(alloc: Global, count: usize) -> Result<Vec<Result<Value, RedisError>>, AllocError>
-    ensures { IfOk result (λ answers. length answers.items ≡ count) }
+    ensures nil { IfOk result (λ answers. answers.items ≡ replicate count (Ok Nil)) }
+    ensures room { IfOk result (λ answers. length answers.items ≡ count) }
 {
     let mut answers = Vec::with_capacity(alloc, count)?;
     for _ in 0..count {

@@ -98,7 +98,7 @@ fn split_reply<R: Routable>(
 ///
 /// # Errors
 ///
-/// `OutOfMemory`. Answers may be used up then, too.
+/// `OutOfMemory`. Then the answers are of no use.
 pub fn reply_of<R: Routable>(
     alloc: Global,
     split: Option<&SplitCommand<'_, R>>,

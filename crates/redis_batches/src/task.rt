@@ -143,7 +143,7 @@ fn task_of<'a>(
 }
 
 /// What a command means in a pipeline: its split if it is over many keys, or else the slot that it
-/// keeps to. `PING` has neither.
+/// keeps to. `PING` has neither. Nothing is promised of a command with gaps, as a `Value` may have.
 ///
 /// # Errors
 ///

@@ -108,7 +108,7 @@ fn push_parts(
 ///
 /// # Errors
 ///
-/// If memory runs out. Then the buffer may end with a beginning of the request.
+/// If memory runs out. Then the buffer is of no use.
 pub fn push_part(
     out: &mut Vec<u8>,
     split: &SplitCommand<'_, Request<'_>>,

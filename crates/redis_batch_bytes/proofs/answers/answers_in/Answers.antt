@@ -20,7 +20,7 @@ within c =
 
 pub loop-batch-init : goal.loop-batch-init
 loop-batch-init c = record {
-  room = c.in_ok-answers.ensures;
+  room = c.in_ok-answers.ensures.room;
   so_far = none_so_far (map (λ v. v.items) c.args.places.now) c.in_ok-answers.answers.items c.args.bytes.now;
 }
 

@@ -1,4 +1,4 @@
-use Rattle.std.proofs.Common.{◌≡◌, ◌∙◌, [], None, Some, ap, map, option_map, rules, sym}
+use Rattle.std.proofs.Common.{◌≡◌, ◌∙◌, [], None, Some, ap, map, option_map, refl, rules, sym}
 use Rattle.redis_routing.specs.Command.{command_name}
 use Rattle.redis_routing.specs.Complete.{multi_slot_routes, pattern_by_name}
 use Rattle.redis_routing.specs.Names.{names_in, names_of}
@@ -16,6 +16,7 @@ returns-in-Some g c = λ args are.
     let own : Some split.routes ≡ multi_slot_routes (names_of [] c.args.names.registry.now) split.arguments = search rules in
     let registered = c.args.names.registry.now in
     let arguments : split.arguments ≡ map Some args = of_some _ found split c.in-Some.is new.arguments ∙ are in (
+      refl,
       arguments,
       kept_split (names_in c.args.names) args split arguments
           (sym (ap (option_map (λ s. s.routes)) c.in-Some.is) ∙ new.routes ∙ ap (multi_slot_routes (names_in c.args.names)) are)

@@ -31,7 +31,7 @@ is_plan c =
     record {
       nodes = length-map nodes.items (λ n. n.now) ∙ sym many ∙ sym long;
       told = omega (arith, c.in_ok-told.ensures.len, told.ok.0, c.len-2.ensures, places.ok.0, long);
-      answers = omega (arith, c.in_ok-answers.ensures, c.len-3.ensures, c.args.parts.ok.0, length-map c.args.parts.items sent_args);
+      answers = omega (arith, c.in_ok-answers.ensures.room, c.len-3.ensures, c.args.parts.ok.0, length-map c.args.parts.items sent_args);
       within = λ k l at.
           let below : k < length lists = slice_get_within lists k l at in
           let same : l ≡ places_in numbers k =
