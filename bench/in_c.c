@@ -240,9 +240,28 @@ static void make_pipeline(size_t commands, text *requests, text *replies) {
     }
 }
 
+/* Puts replies in the order of the requests, each of which is one part. Returns their length. */
+static size_t put_in_order(const text *replies, const size_t *places, size_t count, uint8_t *out) {
+    static size_t starts[1000], lens[1000];
+    size_t start = 0, len = 0;
+    for (size_t i = 0; i < count; i++) {
+        slotroute_told told = {0};
+        sink += slotroute_reply_len(replies->bytes + start, replies->len - start, &told);
+        starts[places[i]] = start;
+        lens[places[i]] = told.bytes;
+        start += told.bytes;
+    }
+    for (size_t i = 0; i < count; i++) {
+        memcpy(out + len, replies->bytes + starts[i], lens[i]);
+        len += lens[i];
+    }
+    return len;
+}
+
 /* By a table in which each slot has another node than the next. */
 static void time_pipelines(void) {
     static uint16_t numbers[SLOTROUTE_SLOTS], nodes[3], rust_nodes[3];
+    static size_t places[1000], parts[1000];
     size_t counts[3], ends[3], rust_counts[3], rust_ends[3], rust_len = 0;
     double own, rust;
     for (size_t slot = 0; slot < SLOTROUTE_SLOTS; slot++) numbers[slot] = (uint16_t)(slot % 3);
@@ -252,7 +271,7 @@ static void time_pipelines(void) {
         make_pipeline(commands, &requests, &replies);
         IN_TURN(own, rust, 20000 / commands + 1,
                 sink += slotroute_split_pipeline(requests.bytes, requests.len, NULL, 0, numbers, SLOTROUTE_SLOTS,
-                nodes, 3, counts, 3, ends, 3, out.bytes, commands * 64, &told),
+                nodes, 3, counts, 3, ends, 3, places, 1000, parts, 1000, out.bytes, commands * 64, &told),
                 rust_len = careful_split_pipeline(requests.bytes, requests.len, numbers, rust_nodes, rust_counts,
                 rust_ends, 3, in_rust.bytes, commands * 64));
         same("split_pipeline", out.bytes, told.bytes, in_rust.bytes, rust_len);
@@ -264,6 +283,10 @@ static void time_pipelines(void) {
                 replies.len, in_rust.bytes, commands * 64));
         same("combine_pipeline", out.bytes, told.bytes, in_rust.bytes, rust_len);
         row("slotroute_combine_pipeline of SET", commands, own, rust, 0);
+        size_t len = 0;
+        LEAST(own, 20000 / commands + 1, len = put_in_order(&replies, places, commands, out.bytes));
+        same("replies by places", out.bytes, len, in_rust.bytes, rust_len);
+        row("replies put in order by places", commands, own, 0, 0);
         free(requests.bytes);
         free(replies.bytes);
         free(out.bytes);

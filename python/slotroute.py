@@ -9,7 +9,7 @@ prints the split of a request, and the one reply of the replies to its parts.
 import ctypes
 import sys
 from ctypes import POINTER, byref, c_char, c_char_p, c_size_t, c_uint16, c_uint32, c_uint64
-from itertools import pairwise
+from itertools import islice, pairwise
 
 # Codes of `Refused.answer`, kinds of `route`, policies and kinds of `redirect`, as in the header.
 DONE, NO_MEMORY, TOO_SMALL, REQUEST_INCOMPLETE, REQUEST_MALFORMED, AFTER_REQUEST = range(6)
@@ -80,7 +80,7 @@ class Library:
             ("combine", BYTES_IN * 3 + BYTES_OUT + told, c_uint32),
             ("combine_answers", [c_uint32, c_size_t, *BYTES_IN, *BYTES_OUT, *told], c_uint32),
             ("table", BYTES_IN * 2 + [c_uint32, c_size_t] + slots + BYTES_OUT + told, c_uint32),
-            ("split_pipeline", BYTES_IN * 2 + slots * 2 + ends * 2 + BYTES_OUT + told, c_uint32),
+            ("split_pipeline", BYTES_IN * 2 + slots * 2 + ends * 4 + BYTES_OUT + told, c_uint32),
             ("combine_pipeline", BYTES_IN * 2 + slots + BYTES_IN + BYTES_OUT + told, c_uint32),
             ("redirect", BYTES_IN * 2 + BYTES_OUT + [POINTER(Redirected)], c_uint32),
         ):
@@ -176,25 +176,29 @@ class Library:
         return list(numbers), [(host, int(port)) for host, _, port in (it.rpartition(":") for it in lines)]
 
     def split_pipeline(self, requests, numbers):
-        """The batches of requests that stand one after the other: for each the number of its node,
-        how many commands it has, and its bytes. `numbers` are those of `table`, or of `slot_numbers`,
-        which saves making them anew."""
+        """The batches of requests that stand one after the other, and how many parts each request
+        has. For each batch the number of its node, the numbers of its parts, and its bytes. Parts
+        are numbered from 0, request after request. `numbers` are those of `table`, or of
+        `slot_numbers`, which saves making them anew."""
         numbers = slot_numbers(numbers)
-        batches, room, told = 16, 2 * len(requests) + 64, Told()
+        batches, sent, asked, room, told = 16, 16, 16, 2 * len(requests) + 64, Told()
         while True:
             nodes, counts, ends = (c_uint16 * batches)(), (c_size_t * batches)(), (c_size_t * batches)()
+            places, parts = (c_size_t * sent)(), (c_size_t * asked)()
             out = ctypes.create_string_buffer(room)
             answer = self.lib.slotroute_split_pipeline(
                 requests, len(requests), *self.names, numbers, len(numbers), nodes, batches,
-                counts, batches, ends, batches, out, room, byref(told),
+                counts, batches, ends, batches, places, sent, parts, asked, out, room, byref(told),
             )  # fmt: skip
             if answer != TOO_SMALL:
                 break
-            batches, room = told.parts, told.bytes
+            batches, sent, asked, room = told.parts, told.reply, told.request, told.bytes
         self._expect_done(answer, told)
-        data = out.raw
+        data, left = out.raw, iter(places)
         starts = [0, *ends[: told.parts]]
-        return [(node, count, data[a:b]) for node, count, (a, b) in zip(nodes, counts, pairwise(starts))]
+        own = [list(islice(left, count)) for count in counts[: told.parts]]
+        batches = [(node, them, data[a:b]) for node, them, (a, b) in zip(nodes, own, pairwise(starts))]
+        return batches, parts[: told.request]
 
     def combine_pipeline(self, requests, numbers, replies):
         """The replies to the requests, by the replies to the batches, batch after batch."""
@@ -251,8 +255,9 @@ def main():
     print(library.combine(asked, replies))
     asked = request("SET", "foo", 1) + request("SET", "bar", 2) + request("MGET", "bar", "foo")
     numbers = slot_numbers([0] * 8192 + [1] * 8192)
-    for node, count, batch in library.split_pipeline(asked, numbers):
-        print("node", node, count, "commands", len(batch), "bytes")
+    batches, _ = library.split_pipeline(asked, numbers)
+    for node, places, batch in batches:
+        print("node", node, len(places), "commands", len(batch), "bytes")
     replies = [b"+OK\r\n*1\r\n$1\r\n1\r\n", b"+OK\r\n*1\r\n$1\r\n2\r\n"]
     print(library.combine_pipeline(asked, numbers, replies))
     routed = library.route(request("KEYS", "*"))

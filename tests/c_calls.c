@@ -149,11 +149,15 @@ static uint64_t some_calls(pool *of, uint64_t seed, int times) {
             ends_len = most(&seed, 4);
             uint16_t *nodes = (uint16_t *)(void *)of->end[3] - nodes_len;
             size_t *counts = (size_t *)(void *)of->end[4] - slots_len, *ends = counts - ends_len;
+            size_t places_len = most(&seed, 4), parts_len = most(&seed, 4);
+            size_t *places = ends - places_len, *parts = places - parts_len;
             memset(nodes, 0xA5, 2 * nodes_len);
-            memset(ends, 0xA5, sizeof *ends * (ends_len + slots_len));
+            memset(parts, 0xA5, sizeof *parts * (parts_len + places_len + ends_len + slots_len));
             answer = slotroute_split_pipeline(bytes, len, names, names_len, halves, numbers_len, nodes, nodes_len,
-                                              counts, slots_len, ends, ends_len, out, out_len, &told);
-            sum = mixed(mixed(sum, nodes, 2 * nodes_len), ends, sizeof *ends * (ends_len + slots_len));
+                                              counts, slots_len, ends, ends_len, places, places_len, parts,
+                                              parts_len, out, out_len, &told);
+            sum = mixed(sum, nodes, 2 * nodes_len);
+            sum = mixed(sum, parts, sizeof *parts * (parts_len + places_len + ends_len + slots_len));
             break;
         }
         case 10:
@@ -246,20 +250,25 @@ static int is_untouched(const void *bytes, size_t len) {
 #define PIPELINE "*3\r\n$3\r\nSET\r\n$1\r\na\r\n$1\r\n1\r\n*3\r\n$4\r\nMGET\r\n$1\r\nb\r\n$1\r\na\r\n"
 
 /* The same of a pipeline into batches, which have 69 bytes. */
-static int is_no_batch(size_t nodes_len, size_t counts_len, size_t ends_len, size_t bytes) {
+static int is_no_batch(size_t nodes_len, size_t counts_len, size_t ends_len, size_t places_len, size_t parts_len,
+                       size_t bytes) {
     uint16_t nodes[2];
-    size_t counts[2], ends[2];
+    size_t counts[2], ends[2], places[3], parts[2];
     uint8_t out[80];
     slotroute_told told = {0};
     memset(nodes, 0xA5, sizeof nodes);
     memset(counts, 0xA5, sizeof counts);
     memset(ends, 0xA5, sizeof ends);
+    memset(places, 0xA5, sizeof places);
+    memset(parts, 0xA5, sizeof parts);
     memset(out, 0xA5, sizeof out);
-    uint32_t answer = slotroute_split_pipeline(BYTES(PIPELINE), NULL, 0, halves, SLOTROUTE_SLOTS, nodes,
-                                               nodes_len, counts, counts_len, ends, ends_len, out, bytes, &told);
-    return answer == SLOTROUTE_TOO_SMALL && told.parts == 2 && told.bytes == 69
-        && is_untouched(nodes, sizeof nodes) && is_untouched(counts, sizeof counts)
-        && is_untouched(ends, sizeof ends) && is_untouched(out, sizeof out);
+    uint32_t answer = slotroute_split_pipeline(BYTES(PIPELINE), NULL, 0, halves, SLOTROUTE_SLOTS, nodes, nodes_len,
+                                               counts, counts_len, ends, ends_len, places, places_len, parts,
+                                               parts_len, out, bytes, &told);
+    return answer == SLOTROUTE_TOO_SMALL && told.parts == 2 && told.bytes == 69 && told.reply == 3
+        && told.request == 2 && is_untouched(nodes, sizeof nodes) && is_untouched(counts, sizeof counts)
+        && is_untouched(ends, sizeof ends) && is_untouched(places, sizeof places)
+        && is_untouched(parts, sizeof parts) && is_untouched(out, sizeof out);
 }
 
 /* Whether a split into these rooms is refused as too small, tells what it needs, and writes nothing. */
@@ -296,8 +305,8 @@ static int small(void) {
     if (slotroute_redirect(BYTES(messages[10]), BYTES("n1"), out, 8, &redirected) != SLOTROUTE_TOO_SMALL
         || redirected.host_len != 9 || !is_untouched(out, sizeof out))
         return 4;
-    if (!is_no_batch(1, 2, 2, 69) || !is_no_batch(2, 1, 2, 69) || !is_no_batch(2, 2, 1, 69)
-        || !is_no_batch(2, 2, 2, 68))
+    if (!is_no_batch(1, 2, 2, 3, 2, 69) || !is_no_batch(2, 1, 2, 3, 2, 69) || !is_no_batch(2, 2, 1, 3, 2, 69)
+        || !is_no_batch(2, 2, 2, 2, 2, 69) || !is_no_batch(2, 2, 2, 3, 1, 69) || !is_no_batch(2, 2, 2, 3, 2, 68))
         return 6;
     if (slotroute_combine_pipeline(BYTES(PIPELINE), NULL, 0, halves, SLOTROUTE_SLOTS,
                                    BYTES("+OK\r\n*1\r\n$1\r\n1\r\n*1\r\n$-1\r\n"), out, 20, &told)
@@ -416,9 +425,11 @@ static int null(void) {
                != SLOTROUTE_TOO_SMALL
         || slotroute_combine_answers(SLOTROUTE_SUM, 1, NULL, 0, NULL, 0, &told) != SLOTROUTE_REPLY_INCOMPLETE)
         return 2;
-    if (slotroute_split_pipeline(NULL, 0, NULL, 0, NULL, 0, NULL, 0, NULL, 0, NULL, 0, NULL, 0, &told)
+    if (slotroute_split_pipeline(NULL, 0, NULL, 0, NULL, 0, NULL, 0, NULL, 0, NULL, 0, NULL, 0, NULL, 0, NULL, 0,
+                                 &told)
             != SLOTROUTE_DONE
-        || slotroute_split_pipeline(BYTES(PIPELINE), NULL, 0, NULL, 0, NULL, 0, NULL, 0, NULL, 0, NULL, 0, &told)
+        || slotroute_split_pipeline(BYTES(PIPELINE), NULL, 0, NULL, 0, NULL, 0, NULL, 0, NULL, 0, NULL, 0, NULL, 0,
+                                    NULL, 0, &told)
                != SLOTROUTE_NOT_COVERED
         || slotroute_combine_pipeline(NULL, 0, NULL, 0, NULL, 0, NULL, 0, NULL, 0, &told) != SLOTROUTE_DONE)
         return 3;
@@ -503,7 +514,7 @@ static int once(int call) {
     static uint16_t slots[SLOTROUTE_SLOTS];
     static uint8_t out[512];
     static char line[64];
-    size_t ends[8] = {0}, counts[8] = {0};
+    size_t ends[8] = {0}, counts[8] = {0}, places[8] = {0}, parts[8] = {0};
     slotroute_told told = {0};
     slotroute_routed routed = {0};
     slotroute_redirected redirected = {0};
@@ -531,7 +542,7 @@ static int once(int call) {
         break;
     case 7: /* redis_batch_bytes::split_pipeline redis_batches::meaning_of redis_batches::places_by_number */
         answer = slotroute_split_pipeline(BYTES(PIPELINE), NULL, 0, halves, SLOTROUTE_SLOTS, slots, 8, counts,
-                                          8, ends, 8, out, sizeof out, &told);
+                                          8, ends, 8, places, 8, parts, 8, out, sizeof out, &told);
         break;
     case 8: /* redis_batch_bytes::combine_pipeline redis_batches::no_answers redis_batches::reply_of */
         answer = slotroute_combine_pipeline(BYTES(PIPELINE), NULL, 0, halves, SLOTROUTE_SLOTS,
@@ -545,6 +556,7 @@ static int once(int call) {
     }
     uint64_t sum = mixed(mixed(14695981039346656037u, slots, sizeof slots), out, sizeof out);
     sum = mixed(mixed(sum, ends, sizeof ends), counts, sizeof counts);
+    sum = mixed(mixed(sum, places, sizeof places), parts, sizeof parts);
     sum = mixed(mixed(sum, &told, sizeof told), &routed, sizeof routed);
     sum = mixed(sum, &redirected.host_len, sizeof redirected.host_len);
     setvbuf(stdout, line, _IOFBF, sizeof line);

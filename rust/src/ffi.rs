@@ -77,7 +77,8 @@ unsafe extern "C" {
         requests: *const u8, requests_len: usize, names: *const u8, names_len: usize,
         numbers: *const u16, numbers_len: usize,
         nodes: *mut u16, nodes_len: usize, counts: *mut usize, counts_len: usize,
-        ends: *mut usize, ends_len: usize, out: *mut u8, out_len: usize, told: *mut Told,
+        ends: *mut usize, ends_len: usize, places: *mut usize, places_len: usize,
+        parts: *mut usize, parts_len: usize, out: *mut u8, out_len: usize, told: *mut Told,
     ) -> u32;
     pub(crate) fn slotroute_combine_pipeline(
         requests: *const u8, requests_len: usize, names: *const u8, names_len: usize,

@@ -265,6 +265,11 @@ pub fn table(reply: &[u8], answering: &str, addr: u32, pick: usize) -> Result<Ta
 /// The batches of a pipeline: for each the number of its node, its commands and its bytes.
 #[derive(Clone, Debug, Default, PartialEq, Eq)]
 pub struct Batches {
+    /// The part that each reply answers, batch after batch. Parts are numbered from 0, request after
+    /// request.
+    pub places: Vec<usize>,
+    /// The number of parts of each request, 1 for a request that goes out whole.
+    pub parts: Vec<usize>,
     nodes: Vec<u16>,
     counts: Vec<usize>,
     ends: Vec<usize>,
@@ -272,6 +277,15 @@ pub struct Batches {
 }
 
 impl Batches {
+    fn resize(&mut self, told: &Told) {
+        self.places.resize(told.reply, 0);
+        self.parts.resize(told.request, 0);
+        self.nodes.resize(told.parts, 0);
+        self.counts.resize(told.parts, 0);
+        self.ends.resize(told.parts, 0);
+        self.bytes.resize(told.bytes, 0);
+    }
+
     /// Each batch: the number of its node, the number of its commands, and its bytes.
     pub fn iter(&self) -> impl Iterator<Item = (u16, usize, &[u8])> {
         let counted = self.nodes.iter().copied().zip(self.counts.iter().copied());
@@ -282,13 +296,11 @@ impl Batches {
 /// Splits requests, one after the other, into one batch for each node of a table's numbers.
 pub fn split_pipeline(requests: &[u8], names: &[u8], numbers: &[u16]) -> Result<Batches, Refused> {
     let mut batches = Batches::default();
-    let room = Told { parts: 16, bytes: 2 * requests.len() + 64, ..Told::default() };
+    let bytes = 2 * requests.len() + 64;
+    let room = Told { parts: 16, bytes, reply: 16, request: 16, ..Told::default() };
     let told = with_room(room, |told| {
-        batches.nodes.resize(told.parts, 0);
-        batches.counts.resize(told.parts, 0);
-        batches.ends.resize(told.parts, 0);
-        batches.bytes.resize(told.bytes, 0);
-        let Batches { nodes, counts, ends, bytes } = &mut batches;
+        batches.resize(told);
+        let Batches { places, parts, nodes, counts, ends, bytes } = &mut batches;
         // SAFETY: as in `slot`.
         unsafe {
             ffi::slotroute_split_pipeline(
@@ -304,16 +316,17 @@ pub fn split_pipeline(requests: &[u8], names: &[u8], numbers: &[u16]) -> Result<
                 counts.len(),
                 ends.as_mut_ptr(),
                 ends.len(),
+                places.as_mut_ptr(),
+                places.len(),
+                parts.as_mut_ptr(),
+                parts.len(),
                 bytes.as_mut_ptr(),
                 bytes.len(),
                 told,
             )
         }
     })?;
-    batches.nodes.truncate(told.parts);
-    batches.counts.truncate(told.parts);
-    batches.ends.truncate(told.parts);
-    batches.bytes.truncate(told.bytes);
+    batches.resize(&told);
     Ok(batches)
 }
 
@@ -416,6 +429,7 @@ mod tests {
             batches.iter().map(|(node, count, _)| (node, count)).collect::<Vec<_>>(),
             [(1, 2), (0, 2)]
         );
+        assert_eq!((batches.places, batches.parts), (vec![0, 3, 1, 2], vec![1, 1, 2]));
         let replies = b"+OK\r\n*1\r\n$1\r\n1\r\n+OK\r\n*1\r\n$1\r\n2\r\n";
         let combined = combine_pipeline(PIPELINE, b"", &table.numbers, replies).unwrap();
         assert_eq!(combined, b"+OK\r\n+OK\r\n*2\r\n$1\r\n2\r\n$1\r\n1\r\n");

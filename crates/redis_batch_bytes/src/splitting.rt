@@ -2,6 +2,7 @@ ghost use Rattle.std.specs.Prelude.{◌≡◌, ◌<◌, ◌++◌, List, map, len
 ghost use Rattle.std.specs.List.{All};
 ghost use Rattle.resp.specs.Forms.{request};
 ghost use Rattle.redis_routing.specs.Registry.{Registrations};
+ghost use Rattle.redis_batches.specs.Replies.{part_count};
 ghost use Rattle.redis_batches.specs.PipelinePlan.{PipelineBatches};
 ghost use Rattle.redis_bytes.specs.Requests.{Words};
 ghost use Rattle.redis_batch_bytes.specs.Batches.{AreBatchesOf, batch_bytes};
@@ -26,6 +27,11 @@ pub struct BatchBytes {
     pub counts: Vec<usize>,
     /// The index after the last byte of each batch.
     pub ends: Vec<usize>,
+    /// The part that each command is, batch after batch. The parts of the requests are numbered from
+    /// 0, in the order of the requests and of the parts of each.
+    pub places: Vec<usize>,
+    /// The number of parts of each request, 1 for a request that goes out whole.
+    pub parts: Vec<usize>,
     /// The requests of the batches, one after another.
     pub bytes: Vec<u8>,
 }
@@ -53,7 +59,7 @@ pub fn split_pipeline(
     // The bytes are requests, and the batches are those of a plan of their commands.
     ensures batches { IfOk result (λ found. (plan : PipelineBatches)
         × IsPlanOfRequests registry.now numbers.now requests.now plan
-        × AreBatchesOf plan.batches found) }
+        × AreBatchesOf plan.splits plan.batches found) }
     // Each fault has its cause.
     ensures fault { IfErr result (λ fault.
         IsUnplanned registry.now numbers.now requests.now fault) }
@@ -79,23 +85,55 @@ fn written(
         (map (λ v. v.items) plan.places.items) }
     ensures { IfOk result (λ found. (words : List Words)
         → AreWordsOf requests.now tasks.now.splits.items tasks.now.parts.items words
-        → AreBatchesOf (batches_of plan.nodes.items (map (λ v. v.items) plan.places.items) words) found) }
+        → AreBatchesOf tasks.now.splits.items (batches_of plan.nodes.items (map (λ v. v.items) plan.places.items) words) found) }
 {
-    let Plan { nodes, places } = plan;
-    let mut counts = Vec::with_capacity(alloc, places.len())?;
-    let mut ends = Vec::with_capacity(alloc, places.len())?;
+    let Plan {
+        nodes,
+        places: lists,
+    } = plan;
+    let mut counts = Vec::with_capacity(alloc, lists.len())?;
+    let mut places = Vec::with_capacity(alloc, tasks.parts.len())?;
+    let mut ends = Vec::with_capacity(alloc, lists.len())?;
     let mut bytes = Vec::with_capacity(alloc, room)?;
-    for own in &places {
+    for own in &lists {
         push_batch(&mut bytes, requests, tasks, own)?;
         counts.push(own.len())?;
+        places.extend_from_slice(own)?;
         ends.push(bytes.len())?;
     }
+    let parts = part_counts(alloc, &tasks.splits)?;
     Ok(BatchBytes {
         nodes,
         counts,
         ends,
+        places,
+        parts,
         bytes,
     })
+}
+
+/// The number of parts of each request.
+fn part_counts(
+    alloc: Global,
+    splits: &[Option<SplitCommand<'_, Request<'_>>>],
+) -> Result<Vec<usize>, AllocError>
+    ensures { IfOk result (λ counts. counts.items ≡ map part_count splits.now) }
+{
+    let mut counts = Vec::with_capacity(alloc, splits.len())?;
+    for split in splits {
+        counts.push(part_count(split.as_ref()))?;
+    }
+    Ok(counts)
+}
+
+/// The number of parts of a request.
+fn part_count(split: Option<&SplitCommand<'_, Request<'_>>>) -> usize
+    ensures { result ≡ part_count (option_copied split.entry) }
+{
+    match split {
+        Some(split) => split.routes().len(),
+        None => 1,
+    }
 }
 
 /// Adds the requests of the parts at these places.

@@ -63,9 +63,9 @@ enum {
 typedef struct slotroute_told {
     size_t parts; /* how many parts there are */
     size_t bytes; /* how many bytes there are */
-    size_t reply; /* the number of a reply, counted from 0 */
+    size_t reply; /* the number of a reply, counted from 0; or how many replies will come */
     size_t at;    /* the index of a byte, or of a line of names, counted from 0 */
-    size_t request; /* the number of a request of a pipeline, counted from 0 */
+    size_t request; /* the number of a request of a pipeline, counted from 0; or how many there are */
     size_t batch;   /* the number of a batch of a pipeline, counted from 0 */
 } slotroute_told;
 
@@ -198,13 +198,20 @@ uint32_t slotroute_table(const uint8_t *reply, size_t reply_len,
  * in order and returns counts[i] replies. Its bytes are those of out from ends[i - 1], or from 0,
  * up to ends[i]. told->parts is the number of batches, and told->bytes the number of bytes. Each
  * command goes to the slot of its first key, or is one that slotroute_split splits. If a request is at
- * fault, told->request is its number. */
+ * fault, told->request is its number.
+ *
+ * A request that is split has as many parts as slotroute_split makes of it, and another request is one
+ * part. Parts are numbered from 0, request after request. parts[i] is how many request i has. Reply
+ * i, counted from the first reply to batch 0, answers the part places[i]. told->reply is how many
+ * replies will come, and told->request how many requests there are. */
 uint32_t slotroute_split_pipeline(const uint8_t *requests, size_t requests_len,
                                   const uint8_t *names, size_t names_len,
                                   const uint16_t *numbers, size_t numbers_len,
                                   uint16_t *nodes, size_t nodes_len,
                                   size_t *counts, size_t counts_len,
                                   size_t *ends, size_t ends_len,
+                                  size_t *places, size_t places_len,
+                                  size_t *parts, size_t parts_len,
                                   uint8_t *out, size_t out_len, slotroute_told *told);
 
 /* Writes the replies to the requests of a pipeline, by the replies to its batches. replies has

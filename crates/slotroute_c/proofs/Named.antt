@@ -26,5 +26,5 @@ not_named text (faults.Unfit kind) why number is other = absurd why
 not_named text faults.NoForm why number is other = absurd why
 not_named text faults.LineFeedInHost why number is other = absurd why
 
-pub batches_by : (names numbers requests : List ℕ) (registered : Registrations) (batches : BatchBytes) → AreNamesIn names registered → (plan : PipelineBatches) × IsPlanOfRequests registered numbers requests plan × AreBatchesOf plan.batches batches → AreBatchesBy names numbers requests batches
+pub batches_by : (names numbers requests : List ℕ) (registered : Registrations) (batches : BatchBytes) → AreNamesIn names registered → (plan : PipelineBatches) × IsPlanOfRequests registered numbers requests plan × AreBatchesOf plan.splits plan.batches batches → AreBatchesBy names numbers requests batches
 batches_by names numbers requests registered batches are h = (h.0, (registered, are, h.1), h.2)

@@ -1,5 +1,5 @@
 -- The batches of a pipeline by a table of node numbers, its replies, and what `told` reports.
-use Rattle.std.specs.Prelude.{◌≡◌, ◌<◌, ◌⊎◌, ℕ, List, length}
+use Rattle.std.specs.Prelude.{◌≡◌, ◌≤◌, ◌⊎◌, ℕ, List, length}
 use Rattle.redis_routing.specs.Registry.{Registrations}
 use Rattle.redis_batches.specs.PipelinePlan.{PipelineBatches}
 use Rattle.redis_batch_bytes.specs.declared.fault.BatchFault.{BatchFault}
@@ -10,6 +10,7 @@ use Rattle.redis_batch_bytes.specs.Plans.{IsPlanOfRequests}
 use Rattle.redis_batch_bytes.specs.Replies.{RepliesAreWritten}
 use Rattle.slotroute_c.specs.declared.outcomes.Outcome.{Outcome}
 use Rattle.slotroute_c.specs.declared.outcomes.Outcome.TheVariants.{AfterReplies, NoForm, NoMemory, NotCovered, NotRoutable}
+use Rattle.slotroute_c.specs.declared.pipelines.Room.{Room}
 use Rattle.slotroute_c.specs.declared.told.Told.{Told}
 use Rattle.slotroute_c.specs.Fields.{with_at, with_batch, with_reply_number, with_request, with_sizes}
 use Rattle.slotroute_c.specs.Faults.{of_request, with_request_fault}
@@ -21,23 +22,31 @@ use Rattle.slotroute_c.specs.Outcomes.{of_reply}
 abbrev pub AreBatchesBy : (names numbers requests : List ℕ) → BatchBytes → Type 0
 AreBatchesBy names numbers requests batches = (plan : PipelineBatches)
     × WithNames names (λ registered. IsPlanOfRequests registered numbers requests plan)
-    × AreBatchesOf plan.batches batches
+    × AreBatchesOf plan.splits plan.batches batches
 
 -- why the bytes are not planned: memory ran out, or by the names of a text the fault has its cause
 abbrev pub FailsToPlan : List ℕ → (Registrations → BatchFault → Type 0) → BatchFault → Type 0
 FailsToPlan names Cause fault =
     (fault ≡ faults.Memory) ⊎ WithNames names (λ registered. Cause registered fault)
 
--- the number of batches and of bytes is reported
+-- the numbers of batches, bytes, commands and requests are reported
 abbrev pub with_batches : BatchBytes → Told → Told
 with_batches batches told =
-    with_sizes (length batches.nodes.items) (length batches.bytes.items) told
+    with_request (length batches.parts.items) (with_reply_number (length batches.places.items)
+    (with_sizes (length batches.nodes.items) (length batches.bytes.items) told))
 
--- one of the buffers, by their lengths, is too small
-abbrev pub IsOneTooSmall : BatchBytes → ℕ → ℕ → ℕ → ℕ → Type 0
-IsOneTooSmall batches nodes counts ends out =
-    (nodes < length batches.nodes.items) ⊎ (counts < length batches.counts.items)
-    ⊎ (ends < length batches.ends.items) ⊎ (out < length batches.bytes.items)
+-- Each buffer has room.
+pub record IsRoomFor (batches : BatchBytes) (room : Room) : Type 0 where
+  pub nodes : length batches.nodes.items ≤ room.nodes
+  pub counts : length batches.counts.items ≤ room.counts
+  pub ends : length batches.ends.items ≤ room.ends
+  pub places : length batches.places.items ≤ room.places
+  pub parts : length batches.parts.items ≤ room.parts
+  pub out : length batches.bytes.items ≤ room.out
+
+-- one of the buffers is too small
+abbrev pub IsOneTooSmall : BatchBytes → Room → Type 0
+IsOneTooSmall batches room = IsRoomFor batches room → ⊥
 
 -- the bytes are the replies to the batches, and by these the replies to the commands are written
 abbrev pub AreCombinedBy : (names numbers requests replies combined : List ℕ) → Type 0

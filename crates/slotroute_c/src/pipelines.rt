@@ -1,4 +1,4 @@
-ghost use Rattle.std.specs.Prelude.{◌≡◌, ◌≢◌, ◌<◌, ℕ, List, IfOk, IfErr, length};
+ghost use Rattle.std.specs.Prelude.{◌≡◌, ◌≢◌, ◌<◌, ℕ, List, true, false, IfOk, IfErr, length};
 ghost use Rattle.redis_bytes.specs.NameLines.{IsFirstBadName};
 ghost use Rattle.redis_batch_bytes.specs.declared.fault.BatchFault as faults;
 ghost use Rattle.redis_batch_bytes.specs.declared.splitting.BatchBytes as declared;
@@ -8,25 +8,52 @@ ghost use Rattle.slotroute_c.specs.Outcomes.{code};
 ghost use Rattle.slotroute_c.specs.Buffers.{IsWritten};
 ghost use Rattle.slotroute_c.specs.Fields.{with_at, with_bytes};
 ghost use Rattle.slotroute_c.specs.Faults.{IsOther};
-ghost use Rattle.slotroute_c.specs.Pipelines.{AreBatchesBy, AreCombinedBy, FailsToPlan, IsOneTooSmall, outcome_of_batch, with_batch_fault, with_batches};
+ghost use Rattle.slotroute_c.specs.Pipelines.{AreBatchesBy, AreCombinedBy, FailsToPlan, IsOneTooSmall, IsRoomFor, outcome_of_batch, with_batch_fault, with_batches};
 
 use crate::buffers::put_all;
 use crate::faults::{code_of, code_of_reply, code_of_request};
 use crate::outcomes::Outcome;
 use crate::told::Told;
-use redis_batch_bytes::{BatchFault, combine_pipeline, split_pipeline};
+use redis_batch_bytes::{BatchBytes, BatchFault, combine_pipeline, split_pipeline};
 use redis_bytes::registry_in;
 use std::alloc::Global;
 
+/// The lengths of a caller's buffers for batches.
+#[derive(Clone, Copy)]
+pub struct Room {
+    pub nodes: usize,
+    pub counts: usize,
+    pub ends: usize,
+    pub places: usize,
+    pub parts: usize,
+    pub out: usize,
+}
+
+impl Room {
+    /// Whether no buffer is too small.
+    fn holds(&self, batches: &BatchBytes) -> bool
+        ensures holds { result ≡ true → IsRoomFor batches.now self.now }
+        ensures too_small { result ≡ false → IsOneTooSmall batches.now self.now }
+    {
+        batches.nodes.len() <= self.nodes
+            && batches.counts.len() <= self.counts
+            && batches.ends.len() <= self.ends
+            && batches.places.len() <= self.places
+            && batches.parts.len() <= self.parts
+            && batches.bytes.len() <= self.out
+    }
+}
+
 /// Splits a pipeline of requests into one batch for each node, by a table of `slotroute_table`.
 /// Writes each batch's node number to `nodes`, its number of commands to `counts`, the end of its
-/// bytes to `ends`, and its bytes to `out`. `told` has the number of batches and of bytes. `names`
-/// registers names of a module's commands.
+/// bytes to `ends`, and its bytes to `out`. Writes which part each command is to `places`, and the
+/// number of parts of each request to `parts`. `told` has the number of batches, of bytes, of
+/// commands and of requests. `names` registers names of a module's commands.
 ///
 /// # Errors
 ///
-/// In this order: `BadName` for the first line of `names` that registers no name. `RequestIncomplete` and `RequestMalformed` for the first request that cannot be
-/// read. `NotRoutable` for the first command that goes to no single slot and is not split.
+/// In this order: `BadName` for the first line of `names` that registers no name.
+/// `RequestIncomplete` and `RequestMalformed` for the first request that cannot be read. `NotRoutable` for the first command that goes to no single slot and is not split.
 /// `NotCovered` for the first slot that has no node. `told` has the number of the request.
 /// `TooSmall` if a buffer is too small for what `told` says. `NoMemory` if memory runs out.
 #[unsafe(no_mangle)]
@@ -38,6 +65,8 @@ pub extern "C" fn slotroute_split_pipeline(
     nodes: &mut [u16],
     counts: &mut [usize],
     ends: &mut [usize],
+    places: &mut [usize],
+    parts: &mut [usize],
     out: &mut [u8],
     told: &mut Told,
 ) -> u32
@@ -47,12 +76,20 @@ pub extern "C" fn slotroute_split_pipeline(
         × IsWritten batches.nodes.items nodes.old nodes.new
         × IsWritten batches.counts.items counts.old counts.new
         × IsWritten batches.ends.items ends.old ends.new
+        × IsWritten batches.places.items places.old places.new
+        × IsWritten batches.parts.items parts.old parts.new
         × IsWritten batches.bytes.items out.old out.new }
     ensures too_small { result ≡ code Outcome.TooSmall → (batches : declared.BatchBytes)
         × AreBatchesBy names.now numbers.now requests.now batches
         × (told.new ≡ with_batches batches told.old)
-        × IsOneTooSmall batches (length nodes.old) (length counts.old) (length ends.old)
-        (length out.old) }
+        × IsOneTooSmall batches (record {
+          nodes = length nodes.old;
+          counts = length counts.old;
+          ends = length ends.old;
+          places = length places.old;
+          parts = length parts.old;
+          out = length out.old;
+        }) }
     ensures bad_name { result ≡ code Outcome.BadName → (number : ℕ)
         × IsFirstBadName names.now number × (told.new ≡ with_at number told.old) }
     ensures fault { result ≢ code Outcome.Done → result ≢ code Outcome.TooSmall
@@ -61,7 +98,8 @@ pub extern "C" fn slotroute_split_pipeline(
         × FailsToPlan names.now (λ registered. IsUnplanned registered numbers.now requests.now) fault
         × (told.new ≡ with_batch_fault fault told.old) }
     ensures unwritten { result ≢ code Outcome.Done → (nodes.new ≡ nodes.old)
-        × (counts.new ≡ counts.old) × (ends.new ≡ ends.old) × (out.new ≡ out.old) }
+        × (counts.new ≡ counts.old) × (ends.new ≡ ends.old) × (places.new ≡ places.old)
+        × (parts.new ≡ parts.old) × (out.new ≡ out.old) }
 {
     let registry = match registry_in(alloc, names) {
         Ok(registry) => registry,
@@ -71,25 +109,35 @@ pub extern "C" fn slotroute_split_pipeline(
         Ok(batches) => batches,
         Err(fault) => return code_of_batch(&fault, told),
     };
-    told.parts = batches.nodes.len();
-    told.bytes = batches.bytes.len();
-    if nodes.len() < batches.nodes.len() {
-        return Outcome::TooSmall.code();
-    }
-    if counts.len() < batches.counts.len() {
-        return Outcome::TooSmall.code();
-    }
-    if ends.len() < batches.ends.len() {
-        return Outcome::TooSmall.code();
-    }
-    if out.len() < batches.bytes.len() {
+    tell_batches(&batches, told);
+    let room = Room {
+        nodes: nodes.len(),
+        counts: counts.len(),
+        ends: ends.len(),
+        places: places.len(),
+        parts: parts.len(),
+        out: out.len(),
+    };
+    if !room.holds(&batches) {
         return Outcome::TooSmall.code();
     }
     put_all(nodes, &batches.nodes);
     put_all(counts, &batches.counts);
     put_all(ends, &batches.ends);
+    put_all(places, &batches.places);
+    put_all(parts, &batches.parts);
     put_all(out, &batches.bytes);
     Outcome::Done.code()
+}
+
+/// Reports the numbers of batches, bytes, commands and requests.
+fn tell_batches(batches: &BatchBytes, told: &mut Told)
+    ensures { told.new ≡ with_batches batches.now told.old }
+{
+    told.parts = batches.nodes.len();
+    told.bytes = batches.bytes.len();
+    told.reply = batches.places.len();
+    told.request = batches.parts.len();
 }
 
 /// Writes the replies to the requests of a pipeline, by the replies to its batches. `replies` has

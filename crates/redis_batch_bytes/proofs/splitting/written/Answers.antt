@@ -1,12 +1,13 @@
 use Rattle.std.proofs.Common.{◌≡◌, ◌<◌, ◌∙◌, ◌∷◌, ◌++◌, [], List, ℕ, All, ap, arith, length, map, rules, subst, sym, take}
-use Rattle.std.specs.List.{flat_map}
+use Rattle.std.specs.List.{concat, flat_map}
 use Rattle.resp_core.specs.ItemEnds.{item_ends}
 use Rattle.std.proofs.lemmas.List.{length-map, map_push, take_all}
 use Rattle.std.proofs.lemmas.Option.{get_or_from_slice_get}
+use Rattle.redis_batches.specs.Replies.{part_count}
 use Rattle.redis_bytes.proofs.Ends.{more_bytes, more_ends}
 use Rattle.redis_batch_bytes.specs.Batches.{batch_bytes}
 use Rattle.redis_batch_bytes.proofs.ByTable.{ports}
-use Rattle.redis_batch_bytes.proofs.Lists.{own_list, take_next}
+use Rattle.redis_batch_bytes.proofs.Lists.{concat_more, own_list, take_next}
 use Rattle.redis_batch_bytes.proofs.splitting.written.Goals as goal
 
 pub push_batch-requires-clause-within : goal.push_batch-requires-clause-within
@@ -28,6 +29,9 @@ loop-own-preserved c =
     let ended : c.push-in-loop-own.new.self.items ≡ c.loop-own.ends.items ++ length c.push_batch.new.bytes.items ∷ [] = search rules in
     record {
       counts = counted ∙ ap (λ (l : List ℕ). l ++ length own ∷ []) c.loop-own.invariant.counts ∙ sym (ap (map length) (take_next lists i own found.1) ∙ map_push length (take i lists) own);
+      places =
+          c.in_ok-extend_from_slice.ensures.items ∙ ap (λ (l : List ℕ). c.loop-own.places.items ++ l) c.deref-in-loop-own.ensures.value
+          ∙ ap (λ (l : List ℕ). l ++ own) c.loop-own.invariant.places ∙ sym (concat_more lists i own found.1);
       written = λ words are.
           let before = c.loop-own.invariant.written words are in
           let next : c.push_batch.new.bytes.items ≡ c.loop-own.bytes.items ++ batch_bytes words own = c.in_ok-push_batch.ensures words are ∙ ap (λ ps. c.loop-own.bytes.items ++ batch_bytes words ps) c.deref.ensures.value in
@@ -47,6 +51,8 @@ returns c = λ words are.
     record {
       nodes = ports c.args.plan.nodes.items;
       counts = now.counts ∙ ap (map length) whole;
+      places = now.places ∙ ap concat whole;
+      parts = c.in_ok-parts.ensures ∙ ap (map part_count) c.deref-2.ensures.value;
       ends = done.ends ∙ ap (λ l. item_ends 0 (map (batch_bytes words) l)) whole;
       bytes = done.bytes ∙ ap (flat_map (batch_bytes words)) whole;
     }
