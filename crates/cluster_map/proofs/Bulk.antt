@@ -109,8 +109,4 @@ apart end (e ∷ es) = grind (arith, common_steps, apart end es)
 
 pub length-insert_entries : {V : Type 0} (es more : List (RangeEntry V)) → length (insert_entries es more) ≤ length es + length more
 length-insert_entries es [] = omega arith
-length-insert_entries es (x ∷ xs) =
-    let others = apart x.1 es in
-    let one : length (insert_entry es x.0 x.1 x.2) ≤ suc (length es) = rw (length-append (ending_below x.1 es) ((x.0, x.1, x.2) ∷ ending_above x.1 es)) (omega arith) in
-    let rest = length-insert_entries (insert_entry es x.0 x.1 x.2) xs in
-    omega arith
+length-insert_entries es (x ∷ xs) = grind (arith, common_steps, apart, length-append, ending_below, ending_above, length-insert_entries (insert_entry es x.0 x.1 x.2) xs)

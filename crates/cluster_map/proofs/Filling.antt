@@ -1,5 +1,5 @@
 -- All ranges of the shards, put in one after the other, and the places that they have.
-use Rattle.std.proofs.Common.{◌≡◌, ◌<◌, ◌≤◌, ◌+◌, ℕ, zero, suc, Bool, not, nat_eq, inl, inr, List, [], ◌∷◌, ◌++◌, map, filter, length, take, get_or, slice_index, sym, ap, ◌∙◌, arith}
+use Rattle.std.proofs.Common.{◌≡◌, ◌<◌, ◌≤◌, ◌+◌, ℕ, zero, suc, Bool, not, nat_eq, inl, inr, List, [], ◌∷◌, ◌++◌, map, filter, length, take, get_or, slice_index, ap, ◌∙◌, arith}
 use Rattle.std.proofs.lemmas.List.{append-nil, take_more, length-take-le}
 use Rattle.std.specs.List.{Contains}
 use Rattle.std.proofs.lemmas.Grind.{common_steps}
@@ -20,11 +20,7 @@ place_entries-last place (x ∷ xs) s = grind (arith, common_steps, place_entrie
 
 -- the ranges of one shard more
 pub place_entries-more : (ss : List ShardNodes) (i : ℕ) (s : ShardNodes) → i < length ss → s ≡ get_or ss i s → place_entries 0 (take i ss) ++ map (place_entry i) s.ranges ≡ place_entries 0 (take (i + 1) ss)
-place_entries-more ss i s within is =
-    let t : take (i + 1) ss ≡ take i ss ++ s ∷ [] = take_more ss i s within ∙ ap (λ z. take i ss ++ z ∷ []) (sym is) in
-    let m : length (take i ss) ≡ i = length-take-le i ss (omega arith) in
-    let n : 0 + length (take i ss) ≡ i = omega arith in
-    ap (λ k. place_entries 0 (take i ss) ++ map (place_entry k) s.ranges) (sym n) ∙ sym (place_entries-last 0 (take i ss) s) ∙ ap (place_entries 0) (sym t)
+place_entries-more ss i s within is = grind (arith, common_steps, take_more, length-take-le, place_entries-last)
 
 places-filter : (n : ℕ) (p : RangeEntry ℕ → Bool) (es : List (RangeEntry ℕ)) → AllPlaces n es → AllPlaces n (filter p es)
 places-filter n p [] all = tt

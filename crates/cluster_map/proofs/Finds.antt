@@ -62,21 +62,7 @@ same_ranges (x ∷ xs) (y ∷ ys) u w h =
 -- the entries at an end after an insert, and after more of them
 find-insert_entry : {V : Type 0} (e : ℕ) (es : List (RangeEntry V)) (start end : ℕ) (value : V) → Ascends es → find e (insert_entry es start end value) ≡ cond (nat_eq end e) (Some (start, end, value)) (find e es)
 find-insert_entry e [] start end value ascends = refl
-find-insert_entry e (r ∷ rs) start end value ascends = elim (cases_order end (end_of r)) [
-  | inl same ↦
-      rw (insert_entry-place r rs start end value ascends same)
-      (by_test (nat_eq end e) (λ h. rw h refl) (λ h. let m : nat_eq r.1 e ≡ false = ap (λ z. nat_eq z e) (sym same) ∙ h in rw (h, m) refl))
-  | inr apart ↦ elim apart [
-    | inl before ↦ rw (insert_entry-front r rs start end value ascends before) refl
-    | inr later ↦
-        rw (insert_entry-later r rs start end value later)
-        (by_test (nat_eq end e)
-        (λ h. let m : nat_eq r.1 e ≡ false = grind (arith, nat_tests) in rw (h, m) (find-insert_entry e rs start end value ascends.1 ∙ rw h refl))
-        (λ h.
-        let rest : find e (insert_entry rs start end value) ≡ find e rs = find-insert_entry e rs start end value ascends.1 ∙ rw h refl in
-        rw h (ap (cond (nat_eq r.1 e) (Some r)) rest)))
-  ]
-]
+find-insert_entry e (r ∷ rs) start end value ascends = grind (arith, common_steps, cases_order, insert_entry-place, by_test, insert_entry-front, insert_entry-later, nat_tests, find-insert_entry e rs start end value ascends.1)
 
 pub Ascends-insert_entries : {V : Type 0} (es more : List (RangeEntry V)) → Ascends es → Ascends (insert_entries es more)
 Ascends-insert_entries es [] ascends = ascends
@@ -84,10 +70,7 @@ Ascends-insert_entries es (x ∷ xs) ascends = Ascends-insert_entries (insert_en
 
 pub find-insert_entries : {V : Type 0} (e : ℕ) (es more : List (RangeEntry V)) → Ascends es → find e (insert_entries es more) ≡ last_of (find e es) (filter (ends_with e) more)
 find-insert_entries e es [] ascends = refl
-find-insert_entries e es (x ∷ xs) ascends =
-    find-insert_entries e (insert_entry es x.0 x.1 x.2) xs (Ascends-insert_entry es x.0 x.1 x.2 ascends)
-    ∙ ap (λ o. last_of o (filter (ends_with e) xs)) (find-insert_entry e es x.0 x.1 x.2 ascends)
-    ∙ by_test (nat_eq x.1 e) (λ h. rw h refl) (λ h. rw h refl)
+find-insert_entries e es (x ∷ xs) ascends = grind (arith, common_steps, Ascends-insert_entry, find-insert_entry, by_test, find-insert_entries e (insert_entry es x.0 x.1 x.2) xs (Ascends-insert_entry es x.0 x.1 x.2 ascends))
 
 -- entries that ascend after those of a list are put in at its end
 before_last : {V : Type 0} (low : ℕ) (es more : List (RangeEntry V)) (x : RangeEntry V) → EndsAfter low (es ++ x ∷ more) → Ascends (es ++ x ∷ more) → low < end_of x
@@ -96,9 +79,7 @@ before_last low (r ∷ rs) more x after ascends = let rest = before_last (end_of
 
 insert_entry-last : {V : Type 0} (es more : List (RangeEntry V)) (x : RangeEntry V) → Ascends (es ++ x ∷ more) → insert_entry es x.0 x.1 x.2 ≡ es ++ x ∷ []
 insert_entry-last [] more x ascends = refl
-insert_entry-last (r ∷ rs) more x ascends =
-    let later : end_of r < end_of x = before_last (end_of r) rs more x ascends.0 ascends.1 in
-    insert_entry-later r rs x.0 x.1 x.2 later ∙ ap (λ z. r ∷ z) (insert_entry-last rs more x ascends.1)
+insert_entry-last (r ∷ rs) more x ascends = grind (arith, common_steps, before_last (end_of r) rs more x ascends.0 ascends.1, insert_entry-later, insert_entry-last rs more x ascends.1)
 
 pub insert_entries-last : {V : Type 0} (es more : List (RangeEntry V)) → Ascends (es ++ more) → insert_entries es more ≡ es ++ more
 insert_entries-last es [] ascends = sym (append-nil es)

@@ -1,5 +1,5 @@
 -- An insert entry by entry, and the answer for a slot as a value.
-use Rattle.std.proofs.Common.{◌≡◌, ◌<◌, ◌≤◌, ℕ, inl, inr, cond, nat_le, nat_cmp, List, [], ◌∷◌, map, fold, Option, Some, None, option_map, Less, Equal, Greater, refl, sym, ap, subst, ◌∙◌, arith}
+use Rattle.std.proofs.Common.{◌≡◌, ◌<◌, ℕ, cond, nat_le, nat_cmp, List, [], ◌∷◌, map, fold, Option, Some, None, option_map, refl, sym, ap, ◌∙◌, arith}
 use Rattle.std.specs.Ordering.{match_ordering}
 use Rattle.std.proofs.lemmas.Bool.{cases_order}
 use Rattle.std.proofs.lemmas.Bool.Decides.{nat_tests}
@@ -14,19 +14,7 @@ insert_step (r ∷ rs) start end value = match_ordering (nat_cmp end r.1) ((star
 
 pub insert_step-is : {V : Type 0} (es : List (RangeEntry V)) (start end : ℕ) (value : V) → Ascends es → insert_entry es start end value ≡ insert_step es start end value
 insert_step-is [] start end value ascends = refl
-insert_step-is (r ∷ rs) start end value ascends = elim (cases_order end r.1) [
-  | inl same ↦
-      let order : nat_cmp end r.1 ≡ Equal = grind (arith, nat_tests) in
-      insert_entry-place r rs start end value ascends same ∙ rw order (ap (λ z. (start, z, value) ∷ rs) same)
-  | inr apart ↦ elim apart [
-    | inl before ↦
-        let order : nat_cmp end r.1 ≡ Less = grind (arith, nat_tests) in
-        insert_entry-front r rs start end value ascends before ∙ rw order refl
-    | inr later ↦
-        let order : nat_cmp end r.1 ≡ Greater = grind (arith, nat_tests) in
-        insert_entry-later r rs start end value later ∙ rw order (ap (λ z. r ∷ z) (insert_step-is rs start end value ascends.1))
-  ]
-]
+insert_step-is (r ∷ rs) start end value ascends = grind (arith, common_steps, cases_order, nat_cmp, nat_tests, insert_entry-place, insert_entry-front, insert_entry-later, insert_step-is rs start end value ascends.1)
 
 abbrev pub step : {V : Type 0} → List (RangeEntry V) → RangeEntry V → List (RangeEntry V)
 step es e = insert_step es e.0 e.1 e.2
@@ -36,9 +24,7 @@ insert_steps es more = fold step es more
 
 pub insert_steps-is : {V : Type 0} (es more : List (RangeEntry V)) → Ascends es → insert_entries es more ≡ insert_steps es more
 insert_steps-is es [] ascends = refl
-insert_steps-is es (x ∷ xs) ascends =
-    insert_steps-is (insert_entry es x.0 x.1 x.2) xs (Ascends-insert_entry es x.0 x.1 x.2 ascends)
-    ∙ ap (λ z. insert_steps z xs) (insert_step-is es x.0 x.1 x.2 ascends)
+insert_steps-is es (x ∷ xs) ascends = grind (arith, common_steps, Ascends-insert_entry, insert_step-is, insert_steps-is (insert_entry es x.0 x.1 x.2) xs (Ascends-insert_entry es x.0 x.1 x.2 ascends))
 
 abbrev pub first_value_at : {V : Type 0} → ℕ → List (RangeEntry V) → Option V
 first_value_at slot [] = None
@@ -49,13 +35,7 @@ answer es slot = first_value_at slot (ending_from slot es)
 
 some_case : {V : Type 0} (es : List (RangeEntry V)) (slot : ℕ) (value : V) (rest : List (RangeEntry V)) → Ascends es → ending_from slot es ≡ rest → first_value_at slot rest ≡ Some value → IsAnswerAt es slot value
 some_case es slot value [] ascends is value_is = cc
-some_case es slot value (e ∷ rest) ascends is value_is = by_test (nat_le e.0 slot)
-    (λ t.
-    let there : Some e.2 ≡ Some value = sym (rw t refl) ∙ value_is in
-    let same : e.2 ≡ value = cc in
-    let starts : e.0 ≤ slot = grind (arith, nat_tests) in
-    subst (λ v. IsAnswerAt es slot v) same (IsAnswerAt-first es slot e (EndsFirstFrom-head es slot e rest ascends is) starts))
-    (λ t. let there : None ≡ Some value = sym (rw t refl) ∙ value_is in cc)
+some_case es slot value (e ∷ rest) ascends is value_is = grind (arith, common_steps, by_test, nat_le, nat_tests, IsAnswerAt-first, EndsFirstFrom-head)
 
 pub answer-some : {V : Type 0} (es : List (RangeEntry V)) (slot : ℕ) (value : V) → Ascends es → answer es slot ≡ Some value → IsAnswerAt es slot value
 answer-some es slot value ascends is = some_case es slot value (ending_from slot es) ascends refl is

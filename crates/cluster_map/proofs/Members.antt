@@ -42,10 +42,7 @@ same_members : {A : Type 0} (same : A → A → Bool) → Tells same → (xs : L
 same_members same tells xs x y there new = grind (arith, common_steps)
 
 not_or : (x y : Bool) → not (x || y) ≡ cond (not y) (not x) false
-not_or true true = refl
-not_or true false = refl
-not_or false true = refl
-not_or false false = refl
+not_or x y = grind (arith)
 
 add_all : {A : Type 0} (same : A → A → Bool) → Tells same → (xs ys : List A) → fold (add_by same) xs ys ≡ xs ++ filter (is_new same xs) (once_by same ys)
 add_all same tells xs [] = sym (append-nil xs)

@@ -61,9 +61,7 @@ others_stay k (y ∷ ys) apart = grind (arith, same_sym, others_stay k ys apart.
 pub counted_once : (ks : List Counted) → IsDistinct (λ x y. same_address x.node.now y.node.now) ks → each_once (addresses_counted ks) ≡ addresses_counted ks
 unfolding IsDistinct
 counted_once [] distinct = refl
-counted_once (k ∷ ks) distinct =
-    ap (λ z. k.node.now ∷ filter (λ a. not (same_address a k.node.now)) z) (counted_once ks distinct.1)
-    ∙ ap (λ z. k.node.now ∷ z) (others_stay k ks distinct.0)
+counted_once (k ∷ ks) distinct = grind (arith, common_steps, others_stay k ks distinct.0, counted_once ks distinct.1)
 
 -- what a set says of a node that is put in, said of addresses
 
@@ -76,9 +74,7 @@ place_counted [] a = refl
 place_counted (k ∷ ks) a = ap (λ z. cond (not (same_address a k.node.now)) (1 + z) 0) (place_counted ks a)
 
 pub nodes_counted : (ks : List Counted) (k : Counted) → addresses_counted (if list_any (λ y. same_address k.node.now y.node.now) ks then ks else ks ++ k ∷ []) ≡ add_new (addresses_counted ks) k.node.now
-nodes_counted ks k = by_test (list_any (λ y. same_address k.node.now y.node.now) ks)
-    (λ t. let any = sym (any_counted ks k.node.now) ∙ t in rw (t, any) refl)
-    (λ t. let any = sym (any_counted ks k.node.now) ∙ t in rw (t, any) (map-append (λ c. c.node.now) ks (k ∷ [])))
+nodes_counted ks k = grind (arith, common_steps, by_test, any_counted ks k.node.now, map-append)
 
 pub index_counted : (ks : List Counted) (k : Counted) (a : Address) (nodes : List Address) (index : ℕ) → index ≡ position_or_len (λ y. same_address k.node.now y.node.now) ks → k.node.now ≡ a → addresses_counted ks ≡ nodes → index ≡ position_or_len (same_address a) nodes
 index_counted ks k a nodes index is node are = is ∙ place_counted ks k.node.now ∙ rw (node, are) refl

@@ -1,5 +1,5 @@
 -- The numbers of pages, from which a place is found by a look at few ends.
-use Rattle.std.proofs.Common.{◌≡◌, ◌<◌, ◌≤◌, ◌+◌, ◌*◌, ◌/◌, ◌^◌, ℕ, zero, suc, true, false, nat_lt, List, [], ◌∷◌, ◌++◌, length, map, take, drop, get_or, sym, ap, ◌∙◌, arith}
+use Rattle.std.proofs.Common.{◌≡◌, ◌<◌, ◌≤◌, ◌+◌, ◌*◌, ◌/◌, ◌^◌, ℕ, zero, suc, false, nat_lt, List, [], ◌∷◌, ◌++◌, length, map, take, drop, get_or, sym, ap, ◌∙◌, arith}
 use Rattle.std.proofs.lemmas.Bool.{lt-ltb, le-ltb}
 use Rattle.std.proofs.lemmas.Bool.Decides.{nat_tests}
 use Rattle.std.proofs.lemmas.List.{get_or-take, get_or-drop, take-append-drop, length-take-le, length-drop}
@@ -31,12 +31,7 @@ squeeze k zero b known few test =
     let past : nat_lt (k + 0) b ≡ false = sym (test 0 few) ∙ le-ltb 0 0 (omega arith) in
     let most : b ≤ k + 0 = grind (arith, nat_tests) in
     omega arith
-squeeze k (suc c) b known few test =
-    let past : nat_lt (k + suc c) b ≡ false = sym (test (suc c) few) ∙ le-ltb (suc c) (suc c) (omega arith) in
-    let within : nat_lt (k + c) b ≡ true = sym (test c (omega arith)) ∙ lt-ltb c (suc c) (omega arith) in
-    let most : b ≤ k + suc c = grind (arith, nat_tests) in
-    let least : k + c < b = grind (arith, nat_tests) in
-    omega arith
+squeeze k (suc c) b known few test = grind (arith, common_steps, nat_lt (k + suc c) b, nat_lt (k + c) b, le-ltb (suc c) (suc c) (omega arith), lt-ltb c (suc c) (omega arith), nat_tests)
 
 -- where not all of 16 ends are below, those before them and of them are all that are
 pub below_near : (end k : ℕ) (ends window : List ℕ) → IsNonDecreasing ends → k ≤ below end ends → k + 16 ≤ length ends → window ≡ take 16 (drop k ends) → below end window < 16 → k + below end window ≡ below end ends
@@ -54,16 +49,11 @@ page_begins slot bits = div-mul-le_self slot (2 ^ bits)
 
 -- the number of a slot's page is one that a place may begin from
 pub page_known : (bits slot d : ℕ) (numbers ends : List ℕ) → ArePages bits numbers ends → slot / 2 ^ bits < length numbers → get_or numbers (slot / 2 ^ bits) d ≤ below slot ends
-page_known bits slot d numbers ends pages within =
-    let known = pages (slot / 2 ^ bits) d within in
-    let more = below-more (slot / 2 ^ bits * 2 ^ bits) slot ends (page_begins slot bits) in
-    omega arith
+page_known bits slot d numbers ends pages within = grind (arith, common_steps, below-more (slot / 2 ^ bits * 2 ^ bits) slot ends (page_begins slot bits), page_begins slot bits)
 
 -- one end more, by its test as a number
 pub below-one : (end e : ℕ) (ends : List ℕ) (one : ℕ) → one ≡ from_bool (nat_lt e end) → below end (e ∷ ends) ≡ one + below end ends
-below-one end e ends one is = is_one (by_test (nat_lt e end) (λ t. rw t (omega arith)) (λ t. rw t (omega arith))) where
-  is_one : below end (e ∷ ends) ≡ from_bool (nat_lt e end) + below end ends → below end (e ∷ ends) ≡ one + below end ends
-  is_one step = step ∙ ap (λ z. z + below end ends) (sym is)
+below-one end e ends one is = grind (arith, common_steps)
 
 -- an index is made of ends and the numbers of pages
 pub IsIndex-written : {V : Type 0} (es : List (RangeEntry V)) (ends numbers index : List ℕ) (bits : ℕ) → ends ≡ map end_of es → ArePages bits numbers (map end_of es) → bits < 16 → index ≡ ends ++ numbers → IsIndex es index bits

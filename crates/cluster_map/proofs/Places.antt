@@ -1,5 +1,5 @@
 -- The place of an end in entries by ascending ends: as many as there are entries that end before it.
-use Rattle.std.proofs.Common.{◌≡◌, ◌<◌, ◌≤◌, ℕ, zero, suc, inl, inr, Bool, true, false, cond, nat_lt, nat_eq, List, [], ◌∷◌, length, map, filter, drop, get_or, set, slice_get, refl, sym, ap, subst, ◌∙◌, arith}
+use Rattle.std.proofs.Common.{◌≡◌, ◌<◌, ◌≤◌, ℕ, zero, suc, inl, inr, Bool, true, false, cond, nat_lt, List, [], ◌∷◌, length, map, filter, drop, get_or, set, slice_get, refl, sym, ap, subst, ◌∙◌, arith}
 use Rattle.std.specs.Prelude.{Some, None}
 use Rattle.std.proofs.lemmas.Bool.{eqb-true, cases_lt, cases_order, lt-ltb, le-ltb, cond-true, cond-false}
 use Rattle.std.proofs.lemmas.Bool.Decides.{nat_tests}
@@ -75,10 +75,7 @@ place_in-counts : {V : Type 0} (e : RangeEntry V) (es : List (RangeEntry V)) (en
 place_in-counts e es end below = ap length (cond-true _ _ _ (lt-ltb (end_of e) end below))
 
 place_in-first : {V : Type 0} (e : RangeEntry V) (es : List (RangeEntry V)) (end : ℕ) → Ascends (e ∷ es) → end ≤ end_of e → place_in (e ∷ es) end ≡ 0
-place_in-first e es end ascends from = ap length (cond-false _ _ _ (le-ltb (end_of e) end from) ∙ below_tail e es end ascends from) where
-  below_tail : {V : Type 0} (e : RangeEntry V) (es : List (RangeEntry V)) (end : ℕ) → Ascends (e ∷ es) → end ≤ end_of e → ending_below end es ≡ []
-  below_tail e [] end ascends from = refl
-  below_tail e (f ∷ fs) end ascends from = ending_below-none end (f ∷ fs) (omega arith) ascends.1
+place_in-first e es end ascends from = grind (arith, common_steps, cond-false, le-ltb, ending_below, ending_below-none)
 
 -- so it is as many as there are ends below it
 below-ends : {V : Type 0} (es : List (RangeEntry V)) (end : ℕ) → below end (map end_of es) ≡ place_in es end
@@ -96,13 +93,7 @@ place_found es seen end place found same = found ∙ ap (below end) same ∙ bel
 -- the entries from that place on are those that end there or after it
 pub ending_from-place : {V : Type 0} (es : List (RangeEntry V)) (end : ℕ) → Ascends es → drop (place_in es end) es ≡ ending_from end es
 ending_from-place [] end ascends = refl
-ending_from-place (e ∷ es) end ascends = elim (cases_lt (end_of e) end) [
-  | inl below ↦ rw (place_in-counts e es end below) (ending_from-place es end ascends.1 ∙ sym (ending_from-skips end e es below))
-  | inr from ↦ rw (place_in-first e es end ascends from) (sym (ending_from-keeps end e es from ∙ ap (λ z. e ∷ z) (all_from e es end ascends from)))
-] where
-  all_from : {V : Type 0} (e : RangeEntry V) (es : List (RangeEntry V)) (end : ℕ) → Ascends (e ∷ es) → end ≤ end_of e → ending_from end es ≡ es
-  all_from e [] end ascends from = refl
-  all_from e (f ∷ fs) end ascends from = ending_from-keeps end f fs (omega arith) ∙ ap (λ z. f ∷ z) (all_from f fs end ascends.1 (omega arith))
+ending_from-place (e ∷ es) end ascends = grind (arith, common_steps, cases_lt, place_in-counts, ending_from-skips, place_in-first, ending_from-keeps, ending_from, ending_from-place es end ascends.1)
 
 pub cons_cond : {X : Type 0} (b : Bool) (x : X) (xs ys : List X) → x ∷ cond b xs ys ≡ cond b (x ∷ xs) (x ∷ ys)
 cons_cond true x xs ys = refl
@@ -113,20 +104,7 @@ pub insert_entry-at : {V : Type 0} (es : List (RangeEntry V)) (start end : ℕ) 
     → insert_entry es start end value
     ≡ cond (ends_at end (slice_get es (place_in es end))) (set es (place_in es end) (start, end, value)) (insert es (place_in es end) (start, end, value))
 insert_entry-at [] start end value ascends = refl
-insert_entry-at (e ∷ es) start end value ascends = elim (cases_order end (end_of e)) [
-  | inl same ↦
-      let test : nat_eq (end_of e) end ≡ true = grind (arith, nat_tests) in
-      rw (place_in-first e es end ascends (omega arith), test) (insert_entry-place e es start end value ascends same)
-  | inr apart ↦ elim apart [
-    | inl before ↦
-        let test : nat_eq (end_of e) end ≡ false = grind (arith, nat_tests) in
-        rw (place_in-first e es end ascends (omega arith), test) (insert_entry-front e es start end value ascends before)
-    | inr later ↦
-        rw (place_in-counts e es end later)
-        (insert_entry-later e es start end value later ∙ ap (λ z. e ∷ z) (insert_entry-at es start end value ascends.1)
-        ∙ cons_cond (ends_at end (slice_get es (place_in es end))) e (set es (place_in es end) (start, end, value)) (insert es (place_in es end) (start, end, value)))
-  ]
-]
+insert_entry-at (e ∷ es) start end value ascends = grind (arith, common_steps, cases_order, nat_tests, place_in-first, insert_entry-place, insert_entry-front, place_in-counts, insert_entry-later, cons_cond, slice_get, insert_entry-at es start end value ascends.1)
 
 -- the same, from what a search and a test said of the entries
 pub set-is_insert_entry : {V : Type 0} (es seen : List (RangeEntry V)) (place start end : ℕ) (value : V) → Ascends es → seen ≡ es → place ≡ place_in es end → ends_at end (slice_get seen place) ≡ true → set es place (start, end, value) ≡ insert_entry es start end value

@@ -67,10 +67,7 @@ EndsFirstFrom {V} es slot e = Contains es e × (slot ≤ end_of e) × ((f : Rang
 
 -- one entry at most ends first at a slot or after it
 pub EndsFirstFrom-unique : {V : Type 0} (es : List (RangeEntry V)) (slot : ℕ) (e f : RangeEntry V) → Ascends es → EndsFirstFrom es slot e → EndsFirstFrom es slot f → e ≡ f
-EndsFirstFrom-unique es slot e f ascends first_e first_f =
-    let below : end_of e ≤ end_of f = first_e.2 f first_f.0 first_f.1 in
-    let above : end_of f ≤ end_of e = first_f.2 e first_e.0 first_e.1 in
-    same_from_ends es e f ascends first_e.0 first_f.0 (omega arith)
+EndsFirstFrom-unique es slot e f ascends first_e first_f = grind (arith, common_steps, same_from_ends es e f ascends first_e.0 first_f.0 (omega arith))
 
 -- an answer is the value of the entry that ends first
 pub EndsFirstFrom-answer : {V : Type 0} (es : List (RangeEntry V)) (slot : ℕ) (value : V) (a : IsAnswerAt es slot value) → EndsFirstFrom es slot (a.start, a.end, value)
@@ -118,10 +115,7 @@ all_end_before (r ∷ rs) slot e none there = elim (cases_lt (end_of r) slot) [
 
 -- where no entry ends at the slot or after it, none answers for it
 pub IsUncovered-none : {V : Type 0} (es : List (RangeEntry V)) (slot : ℕ) → ending_from slot es ≡ [] → IsUncovered es slot
-IsUncovered-none es slot none value a =
-    let before : a.end < slot = all_end_before es slot (a.start, a.end, value) none a.there in
-    let ends : slot ≤ a.end = a.before_end in
-    omega arith
+IsUncovered-none es slot none value a = grind (arith, common_steps, all_end_before es slot (a.start, a.end, value) none a.there)
 
 -- the first of the entries that end at the slot or after it is the one that ends first
 pub EndsFirstFrom-head : {V : Type 0} (es : List (RangeEntry V)) (slot : ℕ) (e : RangeEntry V) (rest : List (RangeEntry V)) → Ascends es → ending_from slot es ≡ e ∷ rest → EndsFirstFrom es slot e

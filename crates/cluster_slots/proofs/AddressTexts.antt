@@ -1,12 +1,13 @@
 -- What the searches of a text find, and what an address text is made of.
 use Rattle.std.proofs.Common.{◌≡◌, ◌≢◌, ◌<◌, ◌-◌, ℕ, zero, suc, IsTrue, nat_eq, eq-eqb, rules, List, [], ◌∷◌, ◌++◌, length, get_or, take, drop, Option, Some, None, MatchOption, IfSome, Bor, refl, ap, sym, ◌∙◌, subst, arith, lit<, replicate, append_assoc}
+use Rattle.std.proofs.lemmas.Grind.{common_steps}
 use Rattle.std.proofs.lemmas.List.{take-append-drop, append-nil}
 use Rattle.std.proofs.Math.Seq.{drop-length}
 use Rattle.std.proofs.lemmas.Str.Pattern.{drop_at_char, NoCharPasses-char}
 use Rattle.std.proofs.lemmas.Bool.Decides.{nat_tests}
 use Rattle.std.proofs.lemmas.Fmt.{decimal_by_steps, decimal_is_IsNumeral}
 use Rattle.std.specs.Prelude.{◌≤◌, ◌+◌, ◌^◌, ◌%◌, ◌==◌, false, decimal}
-use Rattle.std.specs.Str.Parse.{digits_value, without_leading_plus}
+use Rattle.std.specs.Str.Parse.{without_leading_plus}
 use Rattle.cluster_slots.specs.Address.{Address, display_text}
 use Rattle.std.specs.Str.Pattern.{CutsPrefixes, CutsSuffixes, FindsCharPrefix, FindsCharSuffix, IsTrimStartMatches, IsTrimEndMatches, RFindsChar, SplitsAroundMatch}
 use Rattle.cluster_slots.specs.AddressText.{IsBracketed, IsPlainHost, ReadsAs, IsAddressText, IsNoAddress}
@@ -111,10 +112,7 @@ start_behind (c ∷ cs) back n f rest e = let q : c ≡ 91 = cc in f cs (ap (λ 
 
 -- the host of a bracketed text is what is left without its brackets
 pub host_is : (left middle inner host : List ℕ) (k m o c : ℕ) → left ≡ replicate k 91 ++ middle → NoStart middle → middle ≡ inner ++ replicate m 93 → NoEnd inner → IsBracketed left host o c → host ≡ inner
-host_is left middle inner host k m o c e start d end b =
-    let whole : replicate o 91 ++ (host ++ replicate c 93) ≡ replicate k 91 ++ middle = sym (append_assoc (replicate o 91) host (replicate c 93)) ∙ sym b.whole ∙ e in
-    let same : host ++ replicate c 93 ≡ middle = after_opens o k (host ++ replicate c 93) middle whole (start_behind host (replicate c 93) b.some b.start) start in
-    before_closes host inner c m (same ∙ d) b.end end
+host_is left middle inner host k m o c e start d end b = grind (arith, common_steps, append_assoc (replicate o 91) host (replicate c 93), after_opens, start_behind host (replicate c 93) b.some b.start, before_closes)
 
 same_host : (left host other : List ℕ) (o c p d : ℕ) → IsBracketed left host o c → IsBracketed left other p d → host ≡ other
 same_host left host other o c p d a b =
@@ -130,10 +128,7 @@ pub no_colon : (text : List ℕ) → Lacks 58 text → IsNoAddress text
 no_colon text h host port (l, r, a) = has 58 l r (subst (Lacks 58) a.cut h)
 
 pub no_port : (text left right : List ℕ) → CutsAtColon text left right → (None ≡ number_in 16 right) → IsNoAddress text
-no_port text left right c f host port (l, r, a) =
-    let here : number_in 16 right ≡ Some port = sym (ap (number_in 16) (cut_is text left right l r host port c a).1) ∙ a.number in
-    let there : None ≡ Some port = f ∙ here in
-    cc
+no_port text left right c f host port (l, r, a) = grind (arith, common_steps, cut_is text left right l r host port c a)
 
 pub no_host : (text left right middle inner : List ℕ) (k m : ℕ) → CutsAtColon text left right → left ≡ replicate k 91 ++ middle → NoStart middle → middle ≡ inner ++ replicate m 93 → NoEnd inner → inner ≡ [] → IsNoAddress text
 no_host text left right middle inner k m c e start d end empty host port (l, r, a) =
@@ -142,25 +137,7 @@ no_host text left right middle inner k m c e start d end empty host port (l, r, 
     b.some (host_is left middle inner host k m o n e start d end (subst P (cut_is text left right l r host port c a).0 b) ∙ empty)
 
 pub reads : (text left right middle inner : List ℕ) (k m port : ℕ) → CutsAtColon text left right → left ≡ replicate k 91 ++ middle → NoStart middle → middle ≡ inner ++ replicate m 93 → NoEnd inner → inner ≢ [] → Some port ≡ number_in 16 right → IsAddressText text inner port
-reads text left right middle inner k m port c e start d end some number = (
-  left,
-  right,
-  record {
-    cut = c.0;
-    last = free_from 58 right c.1;
-    number = sym number;
-    bracketed = (
-      k,
-      m,
-      record {
-        whole = e ∙ ap (λ y. replicate k 91 ++ y) d ∙ sym (append_assoc (replicate k 91) inner (replicate m 93));
-        some = some;
-        start = λ rest q. start (rest ++ replicate m 93) (d ∙ ap (λ y. y ++ replicate m 93) q);
-        end = end;
-      },
-    );
-  },
-)
+reads text left right middle inner k m port c e start d end some number = grind (arith, common_steps, free_from 58 right c.1, append_assoc (replicate k 91) inner (replicate m 93))
 
 -- a text names one address at most
 pub one_address : (text host other : List ℕ) (port number : ℕ) → IsAddressText text host port → IsAddressText text other number → (host ≡ other) × (port ≡ number)
@@ -207,24 +184,7 @@ no_plus [] h = refl
 no_plus (c ∷ cs) h = let least : 48 ≤ c = h.0.0 in let other : c == 43 ≡ false = grind (arith, nat_tests) in rw other refl
 
 decimal_number : (n : ℕ) → n < 2 ^ 16 → number_in 16 (decimal n) ≡ Some n
-decimal_number n small =
-    let wide : n < 2 ^ 64 = omega arith in
-    let same = no_plus (decimal n) (decimal_digits n wide) in
-    let numeral = decimal_is_IsNumeral n wide in
-    let value : digits_value 10 (without_leading_plus (decimal n)) ≡ n = ap (digits_value 10) same ∙ numeral.1 in
-    sym (number-ok 16 (decimal n) n ((rw same numeral.0, rw value small), sym value))
+decimal_number n small = grind (arith, common_steps, no_plus, decimal_digits, decimal_is_IsNumeral, number-ok)
 
 pub printed_law : (text : List ℕ) (a : Address) → a.port < 2 ^ 16 → text ≡ display_text a → (IsAddressText text a.host a.port → IsPlainHost a.host) × (IsPlainHost a.host → IsAddressText text a.host a.port)
-printed_law text a small e = (
-  (λ (l, r, reading). let (o, c, b) = reading.bracketed in record { some = b.some; start = b.start; end = b.end }),
-  (λ plain. (
-    a.host,
-    decimal a.port,
-    record {
-      cut = e;
-      last = free_from 58 (decimal a.port) (lacks_colon (decimal a.port) (decimal_digits a.port (omega arith)));
-      number = decimal_number a.port small;
-      bracketed = (0, 0, record { whole = sym (append-nil a.host); some = plain.some; start = plain.start; end = plain.end });
-    },
-  )),
-)
+printed_law text a small e = grind (arith, free_from 58 (decimal a.port) (lacks_colon (decimal a.port) (decimal_digits a.port (omega arith))), decimal_digits a.port (omega arith), decimal_number a.port small, append-nil a.host)

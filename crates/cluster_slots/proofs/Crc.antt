@@ -1,5 +1,6 @@
 -- Division is linear, so the bits may come in at the top.
 use Rattle.std.proofs.Common.{◌≡◌, ◌<◌, ◌≤◌, inl, inr, ℕ, zero, suc, ◌+◌, ◌*◌, ◌-◌, ◌%◌, ◌/◌, ◌^◌, List, [], ◌∷◌, ◌++◌, fold, length, drop, replicate, get_or, bit_xor, refl, ap, sym, ◌∙◌, subst, arith, lit<, lit≤, zero-add}
+use Rattle.std.proofs.lemmas.Grind.{common_steps}
 use Rattle.std.proofs.lemmas.Bool.{cases_lt}
 use Rattle.std.proofs.lemmas.Bool.Decides.{nat_tests}
 use Rattle.std.proofs.lemmas.Nat.{xor_block, xor_comm, xor_lt, mod_low}
@@ -25,18 +26,10 @@ pub bring_down_top : (q : ℕ) → q < 32768 → bring_down (32768 + q) 0 ≡ bi
 bring_down_top q h = let e : 2 * (32768 + q) + 0 - 65536 ≡ 2 * q = omega arith in bring_down_high (32768 + q) 0 (omega arith) ∙ ap (λ n. bit_xor n 4129) e
 
 pub bring_down_lt : (r b : ℕ) → r < 2 ^ 16 → b < 2 → bring_down r b < 2 ^ 16
-bring_down_lt r b h k =
-    elim (cases_lt (2 * r + b) 65536) [
-      | inl l ↦ subst (λ n. n < 2 ^ 16) (sym (bring_down_low r b l)) l
-      | inr l ↦ subst (λ n. n < 2 ^ 16) (sym (bring_down_high r b l)) (xor_lt 16 (2 * r + b - 65536) 4129 (omega arith) (lit< tt))
-    ]
+bring_down_lt r b h k = grind (arith, common_steps, cases_lt (2 * r + b) 65536, bring_down_low, bring_down_high, xor_lt 16 (2 * r + b - 65536) 4129 (omega arith) (lit< tt))
 
 pub double_xor : (a b : ℕ) → bit_xor (2 * a) (2 * b) ≡ 2 * bit_xor a b
-double_xor a b =
-    let e : 2 * a ≡ a * 2 ^ 1 + 0 = omega arith in
-    let f : 2 * b ≡ b * 2 ^ 1 + 0 = omega arith in
-    let g : bit_xor a b * 2 ^ 1 + bit_xor 0 0 ≡ 2 * bit_xor a b = omega (arith, xor_self 0) in
-    ap (λ x. bit_xor x (2 * b)) e ∙ ap (λ x. bit_xor (a * 2 ^ 1 + 0) x) f ∙ xor_block 1 a b 0 0 (lit< tt) (lit< tt) ∙ g
+double_xor a b = grind (arith, common_steps, bit_xor a b * 2 ^ 1, bit_xor 0 0, bit_xor a b, xor_block 1 a b 0 0 (lit< tt) (lit< tt))
 
 doubled_bit : (q b : ℕ) → b < 2 → bit_xor (2 * q) b ≡ 2 * q + b
 doubled_bit q b k = let e : 2 * q ≡ q * 2 ^ 1 = omega arith in ap (λ x. bit_xor x b) e ∙ xor_shifted q 1 b k ∙ omega arith
@@ -63,18 +56,14 @@ top_top : (q t : ℕ) → q < 32768 → t < 32768 → bit_xor (32768 + q) (32768
 top_top q t h k = xor_block 15 1 1 q t h k ∙ zero-add (bit_xor q t)
 
 xor_top_bottom : (q s : ℕ) → q < 32768 → s < 32768 → bring_down (bit_xor (32768 + q) s) 0 ≡ bit_xor (bring_down (32768 + q) 0) (bring_down s 0)
-xor_top_bottom q s h k =
-    ap (λ x. bring_down x 0) (top_bottom q s h k) ∙ bring_down_top (bit_xor q s) (xor_lt 15 q s h k) ∙ ap (λ x. bit_xor x 4129) (sym (double_xor q s))
-    ∙ swap_right (2 * q) (2 * s) 4129 ∙ ap (λ x. bit_xor x (2 * s)) (sym (bring_down_top q h)) ∙ ap (bit_xor (bring_down (32768 + q) 0)) (sym (bring_down_bottom s k))
+xor_top_bottom q s h k = grind (arith, common_steps, top_bottom q s h k, bring_down_top (bit_xor q s) (xor_lt 15 q s h k), bring_down_top q h, bit_xor q s, bit_xor (bring_down (32768 + q) 0), xor_lt 15 q s h k, double_xor q s, swap_right (2 * q) (2 * s) 4129, bring_down_bottom s k)
 
 cancel : (a b g : ℕ) → bit_xor (bit_xor a g) (bit_xor b g) ≡ bit_xor a b
 cancel a b g =
     xor_assoc a g (bit_xor b g) ∙ ap (bit_xor a) (ap (bit_xor g) (xor_comm b g) ∙ sym (xor_assoc g g b) ∙ ap (λ x. bit_xor x b) (xor_self g) ∙ xor_zero_l b)
 
 xor_top_top : (q t : ℕ) → q < 32768 → t < 32768 → bring_down (bit_xor (32768 + q) (32768 + t)) 0 ≡ bit_xor (bring_down (32768 + q) 0) (bring_down (32768 + t) 0)
-xor_top_top q t h k =
-    ap (λ x. bring_down x 0) (top_top q t h k) ∙ bring_down_bottom (bit_xor q t) (xor_lt 15 q t h k) ∙ sym (double_xor q t) ∙ sym (cancel (2 * q) (2 * t) 4129)
-    ∙ ap (λ x. bit_xor x (bit_xor (2 * t) 4129)) (sym (bring_down_top q h)) ∙ ap (bit_xor (bring_down (32768 + q) 0)) (sym (bring_down_top t k))
+xor_top_top q t h k = grind (arith, common_steps, top_top q t h k, bring_down_bottom (bit_xor q t) (xor_lt 15 q t h k), bit_xor q t, bit_xor (2 * t) 4129, bit_xor (bring_down (32768 + q) 0), xor_lt 15 q t h k, double_xor q t, cancel (2 * q) (2 * t) 4129, bring_down_top q h, bring_down_top t k)
 
 xor_bottom_bottom : (r s : ℕ) → r < 32768 → s < 32768 → bring_down (bit_xor r s) 0 ≡ bit_xor (bring_down r 0) (bring_down s 0)
 xor_bottom_bottom r s h k =
@@ -138,28 +127,17 @@ zeros_down-replicate zero r = refl
 zeros_down-replicate (suc n) r = zeros_down-replicate n (bring_down r 0)
 
 bit_times : (b p : ℕ) → b < 2 → p ≤ 256 → b * p < 65536
-bit_times zero p h k = omega arith
-bit_times (suc zero) p h k = omega arith
-bit_times (suc (suc n)) p h k = absurd (omega arith)
+bit_times b p h1 h2 = grind (arith)
 
 bit_plus : (b p m : ℕ) → b < 2 → m < p → b * p + m < 2 * p
-bit_plus zero p m h k = omega arith
-bit_plus (suc zero) p m h k = omega arith
-bit_plus (suc (suc n)) p m h k = absurd (omega arith)
+bit_plus b p m h1 h2 = grind (arith)
 
 parts : (h b p m : ℕ) → (2 * h + b) * p + m ≡ h * (2 * p) + (b * p + m)
 parts h b p m = omega arith
 
 -- one bit more of a number
 mod_more : (b n : ℕ) → b % 2 ^ suc n ≡ bit_at b n * 2 ^ n + b % 2 ^ n
-mod_more b n =
-    let q = b / 2 ^ n in
-    let e : b / 2 ^ n ≡ 2 * (b / 2 ^ n / 2) + bit_at b n = omega arith in
-    let m : b % 2 ^ n < 2 ^ n = omega (arith, pow_pos n) in
-    let low : bit_at b n * 2 ^ n + b % 2 ^ n < 2 ^ suc n = subst (λ y. bit_at b n * 2 ^ n + b % 2 ^ n < y) (sym (pow-succ' 2 n)) (bit_plus (bit_at b n) (2 ^ n) (b % 2 ^ n) (bit_at-lt b n) m) in
-    let whole : b ≡ b / 2 ^ n / 2 * 2 ^ suc n + (bit_at b n * 2 ^ n + b % 2 ^ n) =
-    sym (split b n) ∙ ap (λ y. y * 2 ^ n + b % 2 ^ n) e ∙ parts (b / 2 ^ n / 2) (bit_at b n) (2 ^ n) (b % 2 ^ n) ∙ ap (λ y. b / 2 ^ n / 2 * y + (bit_at b n * 2 ^ n + b % 2 ^ n)) (sym (pow-succ' 2 n)) in
-    ap (λ y. y % 2 ^ suc n) whole ∙ mod_low (b / 2 ^ n / 2) (suc n) (bit_at b n * 2 ^ n + b % 2 ^ n) low
+mod_more b n = grind (arith, common_steps, pow_pos n, pow-succ' 2 n, bit_plus, bit_at-lt b n, split b n, parts (b / 2 ^ n / 2) (bit_at b n) (2 ^ n) (b % 2 ^ n), mod_low)
 
 -- the n low bits of b come in at the bottom
 pub bits_in : (n r b : ℕ) → 2 ^ n ≤ 256 → r < 2 ^ 16 → fold bring_down r (low_bits b n) ≡ bit_xor (zeros_down n r) (b % 2 ^ n)
@@ -185,11 +163,7 @@ bits_lt r (suc n) b h = bits_lt (bring_down r (bit_at b n)) n b (bring_down_lt r
 
 -- n bits at the bottom and m zeros, or m zeros and the n bits at the top
 pub byte_in : (m n r b c : ℕ) → 2 ^ n ≤ 256 → r < 2 ^ 16 → b < 2 ^ n → zeros_down m b ≡ zeros_down n c → c < 2 ^ 16 → zeros_down m (fold bring_down r (low_bits b n)) ≡ zeros_down n (bit_xor (zeros_down m r) c)
-byte_in m n r b c l h k e d =
-    let e0 : b ≡ 0 * 2 ^ n + b = omega arith in
-    let same : b % 2 ^ n ≡ b = ap (λ y. y % 2 ^ n) e0 ∙ mod_low 0 n b k in
-    ap (zeros_down m) (bits_in n r b l h ∙ ap (bit_xor (zeros_down n r)) same) ∙ zeros_down-xor m (zeros_down n r) b (zeros_down_lt n r h) (omega arith)
-    ∙ ap (λ x. bit_xor x (zeros_down m b)) (zeros_down-swap m n r) ∙ ap (bit_xor (zeros_down n (zeros_down m r))) e ∙ sym (zeros_down-xor n (zeros_down m r) c (zeros_down_lt m r h) d)
+byte_in m n r b c l h k e d = grind (arith, common_steps, mod_low 0 n b k, bits_in n r b l h, bit_xor (zeros_down n r), bit_xor (zeros_down n (zeros_down m r)), zeros_down-xor m (zeros_down n r) b (zeros_down_lt n r h) (omega arith), zeros_down-xor n (zeros_down m r) c (zeros_down_lt m r h) d, zeros_down_lt n r h, zeros_down_lt m r h, zeros_down-swap m n r)
 
 all_lt : (r : ℕ) (bs : List ℕ) → r < 2 ^ 16 → fold bring_down r (bits_of bs) < 2 ^ 16
 all_lt r [] h = h
@@ -222,9 +196,7 @@ crc_whole bs = fold-append 0 (bits_of bs) (replicate 16 0) ∙ zeros_down-replic
 
 -- the 8 bits of a byte and then n zeros
 pub byte_and_zeros : (n b : ℕ) → b < 2 ^ 8 → rem (low_bits b 8 ++ replicate n 0) ≡ zeros_down n b
-byte_and_zeros n b h =
-    let bits : fold bring_down 0 (low_bits b 8) ≡ b = bits_in 8 0 b (lit≤ tt) (lit< tt) ∙ xor_zero_l (b % 256) ∙ omega arith in
-    fold-append 0 (low_bits b 8) (replicate n 0) ∙ zeros_down-replicate n (fold bring_down 0 (low_bits b 8)) ∙ ap (zeros_down n) bits
+byte_and_zeros n b h = grind (arith, common_steps, bits_in 8 0 b (lit≤ tt) (lit< tt), fold-append 0 (low_bits b 8) (replicate n 0), zeros_down-replicate n (fold bring_down 0 (low_bits b 8)))
 
 -- a byte that comes in at the top meets the high byte of the register, and the low byte moves up
 pub byte_step : (c x : ℕ) → c < 2 ^ 16 → x < 2 ^ 8 → next_register c x ≡ bit_xor (c * 256 % 65536) (zeros_down 16 (bit_xor (c / 256) x))
@@ -248,11 +220,7 @@ zeros_down-more (suc m) n r = let e : suc (m + n) ≡ suc m + n = omega arith in
 
 -- a byte more, and n zeros
 byte_down : (n c x : ℕ) → c < 2 ^ 16 → x < 2 ^ 8 → zeros_down n (next_register c x) ≡ bit_xor (zeros_down (8 + n) c) (zeros_down (16 + n) x)
-byte_down n c x h k =
-    ap (zeros_down n) (zeros_down-xor 8 c (x * 256) h (omega arith) ∙ ap (bit_xor (zeros_down 8 c)) (byte_at_top x k))
-    ∙ zeros_down-xor n (zeros_down 8 c) (zeros_down 16 x) (zeros_down_lt 8 c h) (zeros_down_lt 16 x (omega arith))
-    ∙ ap (λ y. bit_xor y (zeros_down n (zeros_down 16 x))) (zeros_down-more 8 n c)
-    ∙ ap (bit_xor (zeros_down (8 + n) c)) (zeros_down-more 16 n x)
+byte_down n c x h k = grind (arith, common_steps, zeros_down-xor 8 c (x * 256) h (omega arith), zeros_down-xor n (zeros_down 8 c) (zeros_down 16 x) (zeros_down_lt 8 c h) (zeros_down_lt 16 x (omega arith)), bit_xor (zeros_down 8 c), bit_xor (zeros_down (8 + n) c), byte_at_top x k, zeros_down_lt 8 c h, zeros_down_lt 16 x (omega arith), zeros_down-more 8 n c, zeros_down-more 16 n x)
 
 -- the two bytes of the register, before n zeros more than 8
 register_down : (n c : ℕ) → c < 2 ^ 16 → zeros_down (8 + n) c ≡ bit_xor (zeros_down (16 + n) (c / 256 % 256)) (zeros_down (8 + n) (c % 256))

@@ -1,8 +1,9 @@
 -- Where a key has a tag in braces, and where it has none.
-use Rattle.std.proofs.Common.{◌≡◌, ◌≢◌, ℕ, List, [], ◌∷◌, ◌++◌, ◌%◌, sym, ◌∙◌, ap, subst, inl, inr}
+use Rattle.std.proofs.Common.{◌≡◌, ◌≢◌, ℕ, List, [], ◌∷◌, ◌++◌, sym, ◌∙◌, ap, subst, inl, inr, arith}
+use Rattle.std.proofs.lemmas.Grind.{common_steps}
 use Rattle.std.specs.Prelude.{Contains}
 use Rattle.cluster_slots.specs.HashTag.{HoldsTag, HasTag, HasNoTag, IsHashTag}
-use Rattle.cluster_slots.specs.KeySlot.{IsKeySlot, crc_of}
+use Rattle.cluster_slots.specs.KeySlot.{IsKeySlot}
 use Rattle.cluster_slots.proofs.Lists.{Lacks, lacks_from, has, first_cut}
 
 pub no_open : (key : List ℕ) → ¬ (Contains key 123) → HasNoTag key
@@ -18,9 +19,7 @@ no_close key front rest e h k t (u, v, held) =
     has 125 t v (subst (Lacks 125) (rest_is key front rest t u v e h held) (lacks_from 125 rest k))
 
 pub nothing_between : (key front rest tag back : List ℕ) → key ≡ front ++ 123 ∷ rest → ¬ (Contains front 123) → rest ≡ tag ++ 125 ∷ back → ¬ (Contains tag 125) → tag ≡ [] → HasNoTag key
-nothing_between key front rest tag back e h d k z t (u, v, held) =
-    let w = first_cut 125 tag back t v (sym d ∙ rest_is key front rest t u v e h held) (lacks_from 125 tag k) (lacks_from 125 t held.closed) in
-    held.some (sym w.0 ∙ z)
+nothing_between key front rest tag back e h d k z t (u, v, held) = grind (arith, common_steps, first_cut, rest_is, lacks_from)
 
 pub tagged : (key front rest tag back : List ℕ) → key ≡ front ++ 123 ∷ rest → ¬ (Contains front 123) → rest ≡ tag ++ 125 ∷ back → ¬ (Contains tag 125) → tag ≢ [] → HasTag key tag
 tagged key front rest tag back e h d k n =
@@ -28,9 +27,7 @@ tagged key front rest tag back e h d k n =
 
 -- a key has one tag in braces at most
 pub one_tag : (key t s : List ℕ) → HasTag key t → HasTag key s → t ≡ s
-one_tag key t s (u, v, held) (a, b, other) =
-    let w = first_cut 123 u (t ++ 125 ∷ v) a (s ++ 125 ∷ b) (sym held.split ∙ other.split) (lacks_from 123 u held.first) (lacks_from 123 a other.first) in
-    (first_cut 125 t v s b w.1 (lacks_from 125 t held.closed) (lacks_from 125 s other.closed)).0
+one_tag key t s (u, v, held) (a, b, other) = grind (arith, common_steps, first_cut, lacks_from)
 
 -- the tag in braces is what decides the slot of a key that has one
 hash_tag_is : (key t s : List ℕ) → HasTag key t → IsHashTag key s → s ≡ t
@@ -45,6 +42,4 @@ one_hash_tag key t s (inr whole) (inr other) = other.0 ∙ sym whole.0
 
 -- the law on tags
 pub tag_law : (key other t : List ℕ) (slot number : ℕ) → IsKeySlot key slot → IsHashTag key t → IsHashTag other t → IsKeySlot other number → slot ≡ number
-tag_law key other t slot number (a, is_a, e) h g (b, is_b, f) =
-    let same : a ≡ b = one_hash_tag key t a h is_a ∙ sym (one_hash_tag other t b g is_b) in
-    e ∙ ap (λ x. crc_of x % 16384) same ∙ sym f
+tag_law key other t slot number (a, is_a, e) h g (b, is_b, f) = grind (arith, common_steps, one_hash_tag key t a h is_a, one_hash_tag other t b g is_b)

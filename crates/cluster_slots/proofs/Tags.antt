@@ -1,7 +1,8 @@
 -- The hash tag as a value is what the relation says.
-use Rattle.std.proofs.Common.{◌≡◌, ◌≢◌, ℕ, suc, ◌+◌, ◌%◌, List, [], ◌∷◌, ◌++◌, true, false, refl, ap, ◌∙◌, inl, inr, arith, length, take, drop}
+use Rattle.std.proofs.Common.{◌≡◌, ◌≢◌, ℕ, ◌%◌, List, [], ◌∷◌, ◌++◌, true, false, refl, ap, ◌∙◌, inl, inr, arith, length}
+use Rattle.std.proofs.lemmas.Grind.{common_steps}
 use Rattle.std.specs.Prelude.{nat_eq, nat_lt}
-use Rattle.std.specs.List.{list_any, before_first, after_first, position_or_len}
+use Rattle.std.specs.List.{list_any, before_first, after_first}
 use Rattle.std.proofs.lemmas.Bool.Decides.{nat_tests}
 use Rattle.cluster_slots.specs.HashTag.{IsHashTag, tag_in, hash_tag}
 use Rattle.cluster_slots.specs.KeySlot.{IsKeySlot, crc_of, key_slot}
@@ -12,16 +13,10 @@ use Rattle.resp_core.proofs.Cases.{by_test}
 module _ (b : ℕ) where
   -- after the first b of a list that starts with another
   behind_other : (x : ℕ) (xs : List ℕ) → nat_eq b x ≡ false → after_first (nat_eq b) (x ∷ xs) ≡ after_first (nat_eq b) xs
-  behind_other x xs e =
-      let n : ℕ = position_or_len (nat_eq b) xs in
-      let more : 1 + n + 1 ≡ suc (n + 1) = omega arith in
-      rw e (ap (λ k. drop k (x ∷ xs)) more)
+  behind_other x xs e = grind (arith, common_steps)
 
   before_other : (x : ℕ) (xs : List ℕ) → nat_eq b x ≡ false → before_first (nat_eq b) (x ∷ xs) ≡ x ∷ before_first (nat_eq b) xs
-  before_other x xs e =
-      let n : ℕ = position_or_len (nat_eq b) xs in
-      let more : 1 + n ≡ suc n = omega arith in
-      rw e (ap (λ k. take k (x ∷ xs)) more)
+  before_other x xs e = grind (arith, common_steps)
 
   -- a list that has no b has nothing after the first one
   pub lacking : (xs : List ℕ) → list_any (nat_eq b) xs ≡ false → Lacks b xs × (after_first (nat_eq b) xs ≡ [])

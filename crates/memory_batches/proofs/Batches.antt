@@ -163,9 +163,4 @@ pub taken_next : {C : Type 0} (step : Step C) (serve : Serve C) (kept : Type 0) 
     → length given ≡ length front → then_registered ≡ registered → then_may ≡ may → all ≡ front ++ args ∷ [] → all_given ≡ given ++ answer ∷ []
     → IsTaken step serve registered kept may node front old between given → IsTaken step serve then_registered kept then_may node (args ∷ []) between new (answer ∷ [])
     → IsTaken step serve registered kept may node all old new all_given
-taken_next step serve kept registered then_registered may then_may node front all args old between new given all_given answer many names plan all_is given_is so_far one =
-    let same_names = subst (λ r. IsTaken step serve r kept then_may node (args ∷ []) between new (answer ∷ [])) names one in
-    let same_plan = subst (λ m. IsTaken step serve registered kept m node (args ∷ []) between new (answer ∷ [])) plan same_names in
-    subst (λ l. IsTaken step serve registered kept may node l old new all_given) (sym all_is)
-    (subst (IsTaken step serve registered kept may node (front ++ args ∷ []) old new) (sym given_is)
-    (taken_append step serve registered kept may node front (args ∷ []) old between new given (answer ∷ []) many so_far same_plan))
+taken_next step serve kept registered then_registered may then_may node front all args old between new given all_given answer many names plan all_is given_is so_far one = grind (arith, common_steps, taken_append)

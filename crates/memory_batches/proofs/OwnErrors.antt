@@ -2,7 +2,6 @@
 use Rattle.std.proofs.Common.{All, ◌≡◌, ℕ, List, [], ◌∷◌, ◌++◌, Option, None, Some, Err, inl, inr, false, ap, arith, get_or, refl, sym, subst, ◌∙◌, map}
 use Rattle.std.specs.Prelude.{◌+ℤ◌, codes, nat_eq, pos}
 use Rattle.std.specs.Option.{unwrap_or}
-use Rattle.std.proofs.lemmas.Bool.Decides.{nat_tests}
 use Rattle.std.proofs.lemmas.Grind.{common_steps}
 use Rattle.resp_core.specs.Answer.{Answer}
 use Rattle.resp_core.proofs.Cases.{by_test}
@@ -25,14 +24,7 @@ abbrev IsOwn : List ℕ → Type 0
 IsOwn text = (rest : List ℕ) → (text ≡ codes "MOVED " ++ rest → ⊥) × (text ≡ codes "ASK " ++ rest → ⊥) × (text ≡ codes "TRYAGAIN " ++ rest → ⊥)
 
 by_first : (text : List ℕ) → nat_eq (get_or text 0 0) 77 ≡ false → nat_eq (get_or text 0 0) 65 ≡ false → nat_eq (get_or text 0 0) 84 ≡ false → IsOwn text
-by_first text no_m no_a no_t rest = (
-  λ same. differs (get_or text 0 0) 77 no_m (ap (λ l. get_or l 0 0) same),
-  λ same. differs (get_or text 0 0) 65 no_a (ap (λ l. get_or l 0 0) same),
-  λ same. differs (get_or text 0 0) 84 no_t (ap (λ l. get_or l 0 0) same),
-)
-  where
-    differs : (m n : ℕ) → nat_eq m n ≡ false → m ≡ n → ⊥
-    differs m n other same = grind (arith, nat_tests)
+by_first text no_m no_a no_t rest = grind (arith, common_steps)
 
 -- a reply, or the error of such a text
 abbrev AnswersOwn : Answer → Type 0

@@ -2,7 +2,6 @@
 use Rattle.std.proofs.Common.{◌≡◌, ℕ, ◌+◌, ◌<◌, ◌≤◌, List, [], ◌∷◌, map, length, take, drop, get_or, refl, ap, arith}
 use Rattle.cluster_slots.specs.ArgPattern.{width_of}
 use Rattle.cluster_slots.specs.declared.arg_pattern.MultiSlotArgPattern.{MultiSlotArgPattern}
-use Rattle.cluster_slots.specs.declared.arg_pattern.MultiSlotArgPattern.TheVariants.{KeysOnly, KeyValuePairs, KeysAndLastArg, KeyWithTwoArgTriples}
 use Rattle.redis_routing.specs.Tuples.{keys_alone, keys_and_values, keys_and_two}
 use Rattle.redis_cluster.specs.MultiKey.{KeyTuple}
 use Rattle.redis_cluster.specs.PlacedTuples.{unplaced}
@@ -45,29 +44,18 @@ triples-next (k ∷ a ∷ b ∷ xs) h = ap (λ ts. record { key = k; extras = a 
 
 -- where there are arguments enough, a tuple comes next
 pub next-tuple : (pattern : MultiSlotArgPattern) (xs : List (List ℕ)) → width_of pattern ≤ length xs → key_tuples pattern xs ≡ first_tuple pattern xs ∷ key_tuples pattern (drop (width_of pattern) xs)
-next-tuple KeysOnly xs h = alone-next xs h
-next-tuple KeyValuePairs xs h = pairs-next xs h
-next-tuple KeysAndLastArg xs h = alone-next xs h
-next-tuple KeyWithTwoArgTriples xs h = triples-next xs h
+next-tuple pattern xs h1 = grind (arith, alone-next, pairs-next, triples-next)
 
 alone-end : (xs : List (List ℕ)) → length xs < 1 → map unplaced (keys_alone 0 xs) ≡ []
 alone-end [] h = refl
 alone-end (x ∷ xs) h = absurd (omega (arith, h))
 
 pairs-end : (xs : List (List ℕ)) → length xs < 2 → map unplaced (keys_and_values 0 xs) ≡ []
-pairs-end [] h = refl
-pairs-end (k ∷ []) h = refl
-pairs-end (k ∷ v ∷ xs) h = absurd (omega (arith, h))
+pairs-end xs h1 = grind (arith)
 
 triples-end : (xs : List (List ℕ)) → length xs < 3 → map unplaced (keys_and_two 0 xs) ≡ []
-triples-end [] h = refl
-triples-end (k ∷ []) h = refl
-triples-end (k ∷ a ∷ []) h = refl
-triples-end (k ∷ a ∷ b ∷ xs) h = absurd (omega (arith, h))
+triples-end xs h1 = grind (arith)
 
 -- where there are not, none is left
 pub no-tuple : (pattern : MultiSlotArgPattern) (xs : List (List ℕ)) → length xs < width_of pattern → key_tuples pattern xs ≡ []
-no-tuple KeysOnly xs h = alone-end xs h
-no-tuple KeyValuePairs xs h = pairs-end xs h
-no-tuple KeysAndLastArg xs h = alone-end xs h
-no-tuple KeyWithTwoArgTriples xs h = triples-end xs h
+no-tuple pattern xs h1 = grind (arith, alone-end, pairs-end, triples-end)

@@ -1,9 +1,9 @@
 -- Keyspaces that trees keep.
 use Rattle.std.proofs.Common.{◌≡◌, ◌<◌, ℕ, List, [], ◌∷◌, length, Option, Some, None, Vec, Global, option_map, refl, sym, ap, ◌∙◌, arith}
+use Rattle.std.proofs.lemmas.Grind.{common_steps}
 use Rattle.std.specs.Ordering.{nat_cmp}
 use Rattle.std.specs.Cmp.Lexicographic.{slice_cmp}
-use Rattle.std.specs.BTreeMap.{BTreeMap, WritesThrough, is_at}
-use Rattle.std.specs.Map.{lookup}
+use Rattle.std.specs.BTreeMap.{BTreeMap, WritesThrough}
 use Rattle.redis_cluster.specs.Unsplit.{put}
 use Rattle.memory_nodes.specs.Cells.{tree_value, path_value, cell_of, keyspace_of}
 use Rattle.memory_nodes.specs.declared.cells.Values.{Values}
@@ -60,10 +60,4 @@ keyspace-lent key m n now w there h = keyspace-put key m n (Some w) (found-lent 
 
 -- no value at the empty path, and a tree of no entry
 pub cell-empty : (others : BTreeMap (Vec ℕ Global) (Vec ℕ Global)) → others.entries ≡ [] → cell_of (record { plain = None; others = others }) ≡ (λ path. None)
-cell-empty others h =
-    ap (λ es. λ path. option_map (λ (value : Vec ℕ Global). value.items) (put [] None (λ at. lookup (is_at (λ key. slice_cmp nat_cmp at key.items)) es) path)) h
-    ∙ (λ i path. at_path path i)
-  where
-    at_path : (path : List ℕ) → option_map (λ (value : Vec ℕ Global). value.items) (put [] None (λ at. None) path) ≡ None
-    at_path [] = refl
-    at_path (byte ∷ path) = refl
+cell-empty others h = grind (arith, common_steps)

@@ -1,5 +1,6 @@
 -- A plan is told the answers to its batches, one batch after the other.
 use Rattle.std.proofs.Common.{◌≡◌, ◌<◌, ◌≤◌, ◌+◌, ◌-◌, ◌⊎◌, inl, inr, ℕ, List, [], ◌∷◌, ◌++◌, Some, Result, Ok, option_map, true, All, refl, sym, ap, subst, ◌∙◌, arith, get_or, length, map, take}
+use Rattle.std.proofs.lemmas.Grind.{common_steps}
 use Rattle.std.specs.Prelude.{nat_eq, slice_get}
 use Rattle.std.specs.List.{concat}
 use Rattle.std.proofs.lemmas.Bool.{eqb-true}
@@ -69,11 +70,7 @@ module _ (places : List (List ℕ)) (old new given : List (Result Value ErrorPar
   -- the answers to the batches before, and those to this one
   apart : (all : List Answer) → length all ≡ length old → so_far.given ++ map answer_of given ≡ in_order all (concat (take (count + 1) places))
       → (so_far.given ≡ in_order all (concat (take count places))) × (map answer_of given ≡ in_order all own)
-  apart all many are =
-      let inside : All (λ n. n < length all) own = λ j d below. omega (arith, many, within j d below) in
-      split_right so_far.given (map answer_of given) (in_order all (concat (take count places))) (in_order all own)
-      (length-map given answer_of ∙ long ∙ sym (length-in_order all own inside))
-      (are ∙ ap (in_order all) (concat_more places count own at) ∙ in_order-append all (concat (take count places)) own)
+  apart all many are = grind (arith, common_steps, within, split_right so_far.given (map answer_of given) (in_order all (concat (take count places))) (in_order all own), length-map given answer_of, length-in_order, concat_more places count own, in_order-append all (concat (take count places)) own)
 
   many_still : length new ≡ length old
   many_still = ap length put ∙ length-put_at old own given
@@ -100,15 +97,7 @@ module _ (places : List (List ℕ)) (old new given : List (Result Value ErrorPar
 
 -- after all batches
 pub all_told : (places : List (List ℕ)) (answers : List (Result Value ErrorParts)) (count : ℕ) (bytes rest : List ℕ) → SoFar places answers count bytes rest → length places ≤ count → length rest ≡ 0 → AreTold places answers bytes
-all_told places answers count bytes [] so_far every none =
-    let whole : take count places ≡ places = take_all count places every in
-    record {
-      given = so_far.given;
-      stand = so_far.stand;
-      long = so_far.long ∙ ap (λ (l : List (List ℕ)). length (concat l)) whole;
-      right = λ all many are batch own at.
-          so_far.right all many (are ∙ ap (λ (l : List (List ℕ)). in_order all (concat l)) (sym whole)) batch own (omega (arith, every, within places batch own at)) at;
-    }
+all_told places answers count bytes [] so_far every none = grind (arith, common_steps, within)
 all_told places answers count bytes (b ∷ rest) so_far every none = absurd (omega (arith, none))
 
 -- so there is an answer to each part
@@ -124,18 +113,7 @@ has_all batches answers bytes told_are sent room all by =
 
 first_unread : (places : List (List ℕ)) (answers : List (Result Value ErrorParts)) (count : ℕ) (bytes rest own : List ℕ) (fault : BatchFault) → SoFar places answers count bytes rest → slice_get places count ≡ Some own
     → IsFirstNoAnswer count (length own) rest fault → IsFirstUnreadBatch places bytes fault
-first_unread places answers count bytes rest own fault so_far at next = record {
-  said = so_far.stand.said;
-  front = so_far.stand.front;
-  rest = rest;
-  bytes_are = so_far.stand.bytes_are;
-  are = so_far.stand.are;
-  batch = count;
-  own = own;
-  own_are = at;
-  all = said_long bytes rest so_far.given so_far.stand ∙ so_far.long;
-  next = next;
-}
+first_unread places answers count bytes rest own fault so_far at next = grind (arith, common_steps)
 
 pub unread : (places : List (List ℕ)) (answers : List (Result Value ErrorParts)) (count : ℕ) (bytes rest own : List ℕ) (fault : BatchFault) → SoFar places answers count bytes rest → slice_get places count ≡ Some own
     → IsUnreadAnswer count (length own) rest fault → AreUnreadAnswers places bytes fault

@@ -1,7 +1,8 @@
 -- Lists: what stands at places, and lists that are one.
-use Rattle.std.proofs.Common.{◌≡◌, ◌<◌, ◌+◌, ℕ, zero, suc, List, [], ◌∷◌, ◌++◌, Some, Result, Vec, Global, All, refl, sym, ap, ◌∙◌, arith, get_or, length, map, take, drop, option_map, option_and_then, append-nil}
+use Rattle.std.proofs.Common.{◌≡◌, ◌<◌, ◌+◌, ℕ, zero, suc, List, [], ◌∷◌, ◌++◌, Some, Result, Vec, Global, All, refl, ap, ◌∙◌, arith, get_or, length, map, take, drop, option_map, option_and_then, append-nil}
+use Rattle.std.proofs.lemmas.Grind.{common_steps}
 use Rattle.std.specs.Prelude.{slice_get}
-use Rattle.std.specs.List.{concat, flat_map}
+use Rattle.std.specs.List.{concat}
 use Rattle.std.proofs.lemmas.List.{length-append, length-map, take_more}
 use Rattle.std.proofs.lemmas.List.Concat.{flat_map-append}
 use Rattle.std.proofs.lemmas.List.Folds.{concat-append}
@@ -10,7 +11,6 @@ use Rattle.resp_core.specs.Answer.{Answer, answer_of}
 use Rattle.resp_core.specs.ErrorParts.{ErrorParts}
 use Rattle.resp_core.specs.declared.value.Value.{Value}
 use Rattle.redis_cluster.specs.Orders.{in_order}
-use Rattle.std.specs.Option.{option_to_list}
 use Rattle.redis_cluster.proofs.Orders.{get-in_order, in_order-append}
 use Rattle.redis_batches.proofs.Entries.{get_there}
 use Rattle.redis_batches.proofs.Putting.{AreFor}
@@ -26,9 +26,7 @@ within (y ∷ xs) (suc n) x at = omega (arith, within xs n x at)
 -- answers that are those at places stand there
 pub are_for : (all : List Answer) (places : List ℕ) (answers : List (Result Value ErrorParts)) → All (λ n. n < length all) places → map answer_of answers ≡ in_order all places
     → AreFor all places answers
-are_for all places answers inside are i below =
-    sym (slice_get-map answer_of answers i) ∙ ap (λ (l : List Answer). slice_get l i) are ∙ get-in_order all places inside i
-    ∙ ap (option_and_then (λ (k : ℕ). slice_get all k)) (get_there places i 0 below)
+are_for all places answers inside are i below = grind (arith, common_steps, slice_get-map answer_of answers i, get-in_order all places inside i, option_and_then, get_there places i 0 below)
 
 -- lists with the same elements at each place are one
 pub same_lists : {X Y : Type 0} (f : X → Y) (xs : List X) (ys : List Y) → length xs ≡ length ys → ((n : ℕ) → n < length xs → option_map f (slice_get xs n) ≡ slice_get ys n) → map f xs ≡ ys
@@ -44,10 +42,7 @@ pub split_left : {X : Type 0} (xs us ys vs : List X) → length xs ≡ length ys
 split_left [] us [] vs long same = (refl, same)
 split_left [] us (y ∷ ys) vs long same = absurd (omega (arith, long))
 split_left (x ∷ xs) us [] vs long same = absurd (omega (arith, long))
-split_left (x ∷ xs) us (y ∷ ys) vs long same =
-    let later = split_left xs us ys vs (omega (arith, long)) (ap (drop 1) same) in
-    let first : x ≡ y = same_Some x y (ap (λ l. slice_get l 0) same) in
-    (ap (λ z. z ∷ xs) first ∙ ap (λ l. y ∷ l) later.0, later.1)
+split_left (x ∷ xs) us (y ∷ ys) vs long same = grind (arith, common_steps, split_left xs us ys vs (omega (arith, long)) (ap (drop 1) same))
 
 -- and so do those whose rests are
 pub split_right : {X : Type 0} (xs us ys vs : List X) → length us ≡ length vs → xs ++ us ≡ ys ++ vs → (xs ≡ ys) × (us ≡ vs)
@@ -66,15 +61,9 @@ take_next xs n x at = take_more xs n x (within xs n x at) ∙ ap (λ y. take n x
 
 -- the requests of a batch with one part more
 pub batch_more : (parts : List (List (List ℕ))) (places : List ℕ) (i : ℕ) (part : List (List ℕ)) → i < length places → slice_get parts (get_or places i 0) ≡ Some part → batch_bytes parts (take (i + 1) places) ≡ batch_bytes parts (take i places) ++ request part
-batch_more parts places i part inside at =
-    ap (batch_bytes parts) (take_more places i 0 inside) ∙ ap (flat_map request) (in_order-append parts (take i places) (get_or places i 0 ∷ []) ∙ ap (λ o. in_order parts (take i places) ++ (option_to_list o ++ [])) at)
-    ∙ flat_map-append request (in_order parts (take i places)) (part ∷ []) ∙ ap (λ l. batch_bytes parts (take i places) ++ l) (append-nil (request part))
+batch_more parts places i part inside at = grind (arith, common_steps, take_more places i 0 inside, in_order-append parts (take i places) (get_or places i 0 ∷ []), flat_map-append request (in_order parts (take i places)) (part ∷ []), append-nil (request part))
 
 -- the list of this number
 pub own_list : (places items : List (Vec ℕ Global)) (i : ℕ) (own : Vec ℕ Global) → items ≡ places → i < length items → own ≡ get_or items i own
     → (i < length (map (λ v. v.items) places)) × (slice_get (map (λ v. v.items) places) i ≡ Some own.items)
-own_list places items i own value inside is =
-    let within' : i < length places = omega (arith, inside, ap length value) in (
-      omega (arith, within', length-map places (λ v. v.items)),
-      slice_get-map (λ (v : Vec ℕ Global). v.items) places i ∙ ap (option_map (λ (v : Vec ℕ Global). v.items)) (slice_get_read places (length places) i own refl within' (is ∙ ap (λ l. get_or l i own) value)),
-    )
+own_list places items i own value inside is = grind (arith, common_steps, length-map, slice_get-map, slice_get_read)

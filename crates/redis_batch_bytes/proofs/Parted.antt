@@ -1,9 +1,10 @@
 -- The parts of requests: where each stands, and its words.
 use Rattle.std.proofs.Common.{◌≡◌, ◌<◌, ◌≤◌, ◌+◌, ◌-◌, ◌⊎◌, inl, inr, ℕ, zero, suc, List, [], ◌∷◌, ◌++◌, Bool, true, false, Bor, Option, None, Some, IfSome, MatchOption, All, refl, sym, ap, subst, ◌∙◌, arith, length, map, option_map, take, get_or}
+use Rattle.std.proofs.lemmas.Grind.{common_steps}
 use Rattle.std.specs.Prelude.{slice_get, unwrap_or}
 use Rattle.std.specs.List.{AllZip, flat_map}
 use Rattle.std.proofs.lemmas.Bool.{cases_lt}
-use Rattle.std.proofs.lemmas.List.{append_assoc, append-nil, length-append, length-map, length-take-le, map-append, map_push, take_more}
+use Rattle.std.proofs.lemmas.List.{append-nil, length-append, length-map, length-take-le, map-append, map_push, take_more}
 use Rattle.std.proofs.lemmas.List.Concat.{flat_map-append}
 use Rattle.std.proofs.lemmas.List.Elements.{All-head, All-tail}
 use Rattle.std.proofs.lemmas.Option.{get_or_from_slice_get, same_Some, slice_get-map, slice_get_within}
@@ -51,26 +52,18 @@ from_push command route m slot (s ∷ slots) is = ap (λ l. record { command = c
 -- the part of a slot
 from_at : (command route : ℕ) (slots : List ℕ) (i : ℕ) (part : Part) → slice_get (parts_from command route slots) i ≡ Some part → (part.command ≡ command) × (part.route ≡ route + i) × (slice_get slots i ≡ Some part.slot)
 from_at command route [] i part at = absurd (cc at)
-from_at command route (slot ∷ slots) zero part at =
-    let is = same_Some (record { command = command; route = route; slot = slot }) part at in
-    (sym (ap (λ (p : Part). p.command) is), sym (ap (λ (p : Part). p.route) is) ∙ omega arith, ap (λ (p : Part). Some p.slot) is)
-from_at command route (slot ∷ slots) (suc i) part at =
-    let later = from_at command (route + 1) slots i part at in
-    (later.0, later.1 ∙ omega arith, later.2)
+from_at command route (slot ∷ slots) zero part at = grind (arith, common_steps)
+from_at command route (slot ∷ slots) (suc i) part at = grind (arith, common_steps, from_at command (route + 1) slots i part)
 
 module _ {X : Type 0} (f : X → List ℕ) where
   pub slots_of_parts : (n : ℕ) (xs : List X) → slots_listed (parts_numbered n (map f xs)) ≡ flat_map f xs
   slots_of_parts n [] = refl
-  slots_of_parts n (x ∷ xs) =
-      map-append (λ (part : Part). part.slot) (parts_from n 0 (f x)) (parts_numbered (n + 1) (map f xs)) ∙ ap (λ l. l ++ slots_listed (parts_numbered (n + 1) (map f xs))) (slots_from n 0 (f x))
-      ∙ ap (λ l. f x ++ l) (slots_of_parts (n + 1) xs)
+  slots_of_parts n (x ∷ xs) = grind (arith, common_steps, map-append, slots_from, slots_of_parts (n + 1) xs)
 
   -- with the parts of one command more
   pub parts_push : (n m : ℕ) (xs : List X) (x : X) → m ≡ n + length xs → parts_numbered n (map f (xs ++ x ∷ [])) ≡ parts_numbered n (map f xs) ++ parts_from m 0 (f x)
   parts_push n m [] x is = append-nil (parts_from n 0 (f x)) ∙ ap (λ k. parts_from k 0 (f x)) (let e : n ≡ m = omega (arith, is) in e)
-  parts_push n m (y ∷ xs) x is =
-      ap (λ l. parts_from n 0 (f y) ++ l) (parts_push (n + 1) m xs x (omega (arith, is)))
-      ∙ sym (append_assoc (parts_from n 0 (f y)) (parts_numbered (n + 1) (map f xs)) (parts_from m 0 (f x)))
+  parts_push n m (y ∷ xs) x is = grind (arith, common_steps, parts_push (n + 1) m xs x (omega (arith, is)))
 
   -- The part of this number is that of a route of this command.
   pub record At (n : ℕ) (xs : List X) (i : ℕ) (part : Part) : Type 0 where
@@ -127,9 +120,7 @@ words_again (word ∷ words) = ap (λ l. word ∷ l) (words_again words)
 
 words_there : (made : Option Words) (part : Arguments) → option_map (map Some) made ≡ Some part → map Some (present_words part) ≡ part
 words_there None part is = absurd (cc is)
-words_there (Some words) part is =
-    let e : map Some words ≡ part = same_Some (map Some words) part is in
-    ap (λ p. map Some (present_words p)) (sym e) ∙ ap (map Some) (words_again words) ∙ e
+words_there (Some words) part is = grind (arith, common_steps, same_Some, words_again)
 
 -- the words of the parts of a command
 words_of : Words → Option Split → List Words
@@ -300,9 +291,6 @@ meant_as registered args None (Some slot) slots is meant =
     let command : Bor Words = record { ref_ptr = (0, 0); now = args } in
     (InSlot slot command, is command refl, refl, same_Some (slot ∷ []) slots meant, tt)
 meant_as registered args None None slots is meant = absurd (cc meant)
-
-pub none_kept : (registered : Registrations) (requests : List Words) → AreParted registered (take 0 requests) [] []
-none_kept registered requests = record { kept = []; each = tt; own = tt; splits_are = refl; parts_are = refl }
 
 pub keep_one : (registered : Registrations) (requests : List Words) (n : ℕ) (splits more : List (Option Split)) (parts : List Part) (args : Words) (split : Option Split) (slot : Option ℕ) (slots : List ℕ) (grown : List Part) → n < length requests
     → args ≡ get_or requests n args → AreParted registered (take n requests) splits parts → IsMeaning registered args split slot → slots_meant split slot ≡ Some slots → more ≡ splits ++ split ∷ [] → grown ≡ parts ++ parts_from n 0 slots

@@ -1,5 +1,6 @@
 -- A round after other rounds: all is as if each part that went out again had ended as it did then.
 use Rattle.std.proofs.Common.{◌≡◌, ℕ, ◌+◌, List, [], ◌∷◌, ◌++◌, true, false, cond, Some, Result, All, refl, sym, ap, subst, ◌∙◌, arith, map, length, get_or, suc, append_assoc, zero-add}
+use Rattle.std.proofs.lemmas.Grind.{common_steps}
 use Rattle.std.specs.Prelude.{nat_eq, slice_get}
 use Rattle.std.specs.List.{enumerate_from, list_any}
 use Rattle.std.proofs.lemmas.Bool.{eqb-true}
@@ -16,7 +17,7 @@ use Rattle.redis_cluster.specs.Unsplit.{Step, Keyspace}
 use Rattle.redis_cluster.proofs.Counts.{same_number}
 use Rattle.redis_batches.specs.Served.{Agree, Effect, IsLocal}
 use Rattle.redis_batches.specs.Turns.{all_after, answers, of_slot}
-use Rattle.redis_batches.specs.Pipeline.{AreSlotsOf, Numbered, Part, Planned, Refusals, Serve, ended, ended_answers, numbered, pieces, refused_by, slot_of}
+use Rattle.redis_batches.specs.Pipeline.{AreSlotsOf, Numbered, Part, Planned, Refusals, Serve, ended, ended_answers, numbered, pieces, slot_of}
 use Rattle.redis_batches.specs.Batched.{IsRight}
 use Rattle.redis_batches.specs.Rounds.{Round, is_among}
 use Rattle.redis_batches.specs.Sent.{AreApart, AreLast}
@@ -81,9 +82,7 @@ module _ {C : Type 0} (step : Step C) (serve : Serve C) where
   -- refused parts leave nothing
   nothing_left : (refusals : Refusals) (xs : List Numbered) → All (IsRefusedBy refusals) xs → (ks : Keyspace C) → all_after (ended step serve refusals) xs ks ≡ ks
   nothing_left refusals [] all ks = refl
-  nothing_left refusals (x ∷ xs) all ks =
-      ap (λ o. all_after (ended step serve refusals) xs (refused_by o (piece_of step serve x) ks).keys) (All-head (IsRefusedBy refusals) x xs all).1
-      ∙ nothing_left refusals xs (All-tail (IsRefusedBy refusals) x xs all) ks
+  nothing_left refusals (x ∷ xs) all ks = grind (arith, common_steps, piece_of, All-head, All-tail, nothing_left refusals xs (All-tail (IsRefusedBy refusals) x xs all) ks)
 
   -- each part has the answer at its number
   own_answers : (effect : Numbered → Effect C Answer) (all : List Answer) (n : ℕ) (xs : List Part) (ks : Keyspace C)
@@ -207,9 +206,7 @@ module _ {C : Type 0} (step : Step C) (serve : Serve C) where
       -- the answers to the round, put at their places
       module _ (out more : List (Result Value ErrorParts)) (was : map answer_of out ≡ expected earlier) where
         pub replies_for : (replies : List (Result Value ErrorParts)) → map answer_of replies ≡ map (λ a. a.1) (answers (ended step serve round.refusals) xs then) → AreFor (expected after) (map (λ x. x.0) xs) replies
-        replies_for replies given =
-            subst (λ l. AreFor (expected after) l replies) (answers_numbers (ended step serve round.refusals) xs then)
-            (are_for (expected after) (answers (ended step serve round.refusals) xs then) replies sent_expects given)
+        replies_for replies given = grind (arith, AreFor, answers_numbers, are_for, sent_expects)
 
         -- Then they are those to all parts, each with its last end.
         pub put_back : length more ≡ length out → All (IsRight more (expected after)) (map (λ x. x.0) xs) → ((place : ℕ) → IsRight out (expected after) place → IsRight more (expected after) place)

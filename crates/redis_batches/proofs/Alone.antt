@@ -1,6 +1,6 @@
 -- Parts of a pipeline as a pipeline of their own.
-use Rattle.std.proofs.Common.{◌≡◌, ◌<◌, ◌≤◌, ℕ, ◌+◌, zero, suc, List, [], ◌∷◌, Bool, Option, None, Some, All, refl, sym, ap, ◌∙◌, arith, map, length, get_or, option_map, zero-add}
-use Rattle.std.specs.Prelude.{nat_eq, slice_get}
+use Rattle.std.proofs.Common.{◌≡◌, ◌<◌, ◌≤◌, ℕ, ◌+◌, zero, suc, List, [], ◌∷◌, Option, None, Some, All, refl, sym, ap, ◌∙◌, arith, map, length, get_or, option_map, zero-add}
+use Rattle.std.specs.Prelude.{slice_get}
 use Rattle.std.specs.List.{enumerate_from}
 use Rattle.std.proofs.lemmas.List.{length-map}
 use Rattle.std.proofs.lemmas.List.FromFn.{length-enumerate_from}
@@ -8,23 +8,20 @@ use Rattle.std.proofs.lemmas.List.Elements.{All-nil, All-cons, All-head, All-tai
 use Rattle.std.proofs.lemmas.Option.{same_Some, slice_get-map}
 use Rattle.std.proofs.lemmas.Grind.{common_steps}
 use Rattle.resp_core.specs.Answer.{Answer}
-use Rattle.cluster_slots.specs.KeySlot.{key_slot}
-use Rattle.resp_core.proofs.Cases.{by_test}
 use Rattle.redis_routing.specs.Registry.{Registrations}
-use Rattle.redis_cluster.specs.MultiKey.{KeyTuple, MultiKey, part_of}
+use Rattle.redis_cluster.specs.MultiKey.{MultiKey, part_of}
 use Rattle.redis_cluster.specs.Orders.{times}
 use Rattle.redis_cluster.specs.Unsplit.{Step, Keyspace}
-use Rattle.redis_cluster.proofs.Constructors.{same_head, same_tail}
-use Rattle.redis_cluster.proofs.Counts.{times_here, times_there}
+use Rattle.redis_cluster.proofs.Constructors.{same_tail}
+use Rattle.redis_cluster.proofs.Counts.{times_here}
 use Rattle.redis_batches.specs.Turns.{all_after, answers}
-use Rattle.redis_batches.specs.Pipeline.{AreSlotsOf, Numbered, Part, Planned, Refusals, Serve, Task, ended, in_slot, numbered, over_keys, part, parts_of, pieces, refused_by, slot_of}
+use Rattle.redis_batches.specs.Pipeline.{AreSlotsOf, Numbered, Part, Planned, Refusals, Serve, Task, ended, in_slot, numbered, over_keys, part, parts_of, pieces, slot_of}
 use Rattle.redis_batches.specs.Rounds.{alone}
 use Rattle.redis_batches.specs.Taken.{task_of}
 use Rattle.redis_batches.specs.Sent.{AreApart}
 use Rattle.redis_batches.proofs.Ends.{end_of, ends_found}
 use Rattle.redis_batches.proofs.KeptSlots.{all_numbered}
 use Rattle.redis_batches.proofs.Lists.{filter_inside}
-use Rattle.redis_batches.proofs.Whole.{piece}
 
 -- the part of a slot is a command of this slot alone
 pub record IsOwnPart (q : Part) : Type 0 where
@@ -32,24 +29,10 @@ pub record IsOwnPart (q : Part) : Type 0 where
   pub slots : AreSlotsOf q.task (q.slot ∷ [])
 
 one_slot : (own s : ℕ) → times s (own ∷ []) ≤ 1
-one_slot own s =
-    by_test (nat_eq s own)
-    (λ here. omega (arith, times_here s own [] here, none_at_all s))
-    (λ there. omega (arith, times_there s own [] there, none_at_all s))
-  where
-    none_at_all : (n : ℕ) → times n [] ≡ 0
-    none_at_all n = refl
+one_slot own s = grind (arith, common_steps)
 
 keys_own : (command : MultiKey) (slot : ℕ) → IsOwnPart (record { slot = slot; task = over_keys (part_of command slot) })
-keys_own command slot =
-    let own : KeyTuple → Bool = λ t. nat_eq (key_slot t.key) slot in
-    record {
-      whole = ap (λ ts. over_keys (record { name = command.name; registered = command.registered; shared = command.shared; tuples = ts; form = command.form })) (filter_inside own own (λ t is. is) command.tuples);
-      slots = record {
-        apart = λ s. one_slot slot s;
-        each = λ k d inside. times_here _ slot [] (filter_passes own command.tuples k d inside);
-      };
-    }
+keys_own command slot = grind (arith, common_steps, filter_inside, one_slot, times_here, filter_passes)
 
 slots_own : (command : MultiKey) (slots : List ℕ) → All IsOwnPart (parts_of (record { task = over_keys command; slots = slots }))
 slots_own command [] = All-nil IsOwnPart
@@ -71,10 +54,7 @@ numbered_own ps are = all_numbered IsOwnPart 0 (pieces ps) (pieces_own ps are)
 -- as a pipeline of their own they are its parts
 pub alone_parts : (xs : List Numbered) → All (λ x. IsOwnPart x.1) xs → pieces (alone xs) ≡ map (λ x. x.1) xs
 alone_parts [] own = refl
-alone_parts (x ∷ xs) own =
-    let first : part x.1.task x.1.slot ≡ x.1.task = (All-head (λ y. IsOwnPart y.1) x xs own).whole in
-    ap {B = List Part} (λ t. record { slot = x.1.slot; task = t } ∷ pieces (alone xs)) first
-    ∙ ap {B = List Part} (λ l. x.1 ∷ l) (alone_parts xs (All-tail (λ y. IsOwnPart y.1) x xs own))
+alone_parts (x ∷ xs) own = grind (arith, common_steps, All-head, All-tail, alone_parts xs (All-tail (λ y. IsOwnPart y.1) x xs own))
 
 pub alone_slots : (xs : List Numbered) → All (λ x. IsOwnPart x.1) xs → All (λ p. AreSlotsOf p.task p.slots) (alone xs)
 alone_slots [] own = All-nil (λ p. AreSlotsOf p.task p.slots)
@@ -135,25 +115,19 @@ abbrev pub as_own : List Numbered → Refusals → Refusals
 as_own xs refusals x = end_of (map (λ y. y.0) xs) (map refusals (numbered (alone xs))) x.0
 
 pub as_own_are : (xs : List Numbered) → All (λ x. IsOwnPart x.1) xs → AreApart xs → (refusals : Refusals) → map (as_own xs refusals) xs ≡ map refusals (numbered (alone xs))
-as_own_are xs own apart refusals =
-    ends_found xs (map refusals (numbered (alone xs)))
-    (length-map (numbered (alone xs)) refusals ∙ ap length (alone_numbered xs own) ∙ length-enumerate_from 0 (map (λ x. x.1) xs) ∙ length-map xs (λ x. x.1)) apart
+as_own_are xs own apart refusals = grind (arith, common_steps, ends_found xs (map refusals (numbered (alone xs))), length-map (numbered (alone xs)) refusals, alone_numbered xs own, length-enumerate_from)
 
 module _ {C : Type 0} (step : Step C) (serve : Serve C) (mine theirs : Refusals) where
   -- the same ends leave and answer the same
   ends_leave : (n : ℕ) (xs : List Numbered) → map mine xs ≡ map theirs (enumerate_from n (map (λ x. x.1) xs)) → (ks : Keyspace C)
       → all_after (ended step serve theirs) (enumerate_from n (map (λ x. x.1) xs)) ks ≡ all_after (ended step serve mine) xs ks
   ends_leave n [] same ks = refl
-  ends_leave n (x ∷ xs) same ks =
-      ap (λ o. all_after (ended step serve theirs) (enumerate_from (n + 1) (map (λ (y : Numbered). y.1) xs)) (refused_by o (piece step serve x.1) ks).keys) (sym (same_head same))
-      ∙ ends_leave (n + 1) xs (same_tail same) (ended step serve mine x ks).keys
+  ends_leave n (x ∷ xs) same ks = grind (arith, common_steps, ends_leave (n + 1) xs (same_tail same) (ended step serve mine x ks).keys)
 
   ends_answer : (n : ℕ) (xs : List Numbered) → map mine xs ≡ map theirs (enumerate_from n (map (λ x. x.1) xs)) → (ks : Keyspace C)
       → map (λ (a : Numbered × Answer). a.1) (answers (ended step serve theirs) (enumerate_from n (map (λ x. x.1) xs)) ks) ≡ map (λ (a : Numbered × Answer). a.1) (answers (ended step serve mine) xs ks)
   ends_answer n [] same ks = refl
-  ends_answer n (x ∷ xs) same ks =
-      ap (λ o. (refused_by o (piece step serve x.1) ks).reply ∷ map (λ (a : Numbered × Answer). a.1) (answers (ended step serve theirs) (enumerate_from (n + 1) (map (λ (y : Numbered). y.1) xs)) (refused_by o (piece step serve x.1) ks).keys)) (sym (same_head same))
-      ∙ ap (λ l. (ended step serve mine x ks).reply ∷ l) (ends_answer (n + 1) xs (same_tail same) (ended step serve mine x ks).keys)
+  ends_answer n (x ∷ xs) same ks = grind (arith, common_steps, ends_answer (n + 1) xs (same_tail same) (ended step serve mine x ks).keys)
 
   module _ (xs : List Numbered) (own : All (λ x. IsOwnPart x.1) xs) (same : map mine xs ≡ map theirs (numbered (alone xs))) (ks : Keyspace C) where
     pub alone_leaves : all_after (ended step serve theirs) (numbered (alone xs)) ks ≡ all_after (ended step serve mine) xs ks

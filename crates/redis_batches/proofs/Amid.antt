@@ -1,5 +1,6 @@
 -- The reply to a command of a pipeline whose parts are served at moments of their own.
-use Rattle.std.proofs.Common.{◌≡◌, ℕ, ◌+◌, List, [], ◌∷◌, ◌++◌, Some, Ok, refl, sym, ap, subst, ◌∙◌, length, map, take, drop}
+use Rattle.std.proofs.Common.{◌≡◌, ℕ, ◌+◌, List, [], ◌∷◌, ◌++◌, Some, Ok, refl, sym, ap, subst, ◌∙◌, length, map, take, drop, arith}
+use Rattle.std.proofs.lemmas.Grind.{common_steps}
 use Rattle.std.specs.List.{AllByRecursion}
 use Rattle.std.specs.Prelude.{slice_get}
 use Rattle.std.proofs.lemmas.List.{drop-drop}
@@ -14,7 +15,7 @@ use Rattle.redis_batches.specs.Amid.{AreServedAmid}
 use Rattle.redis_batches.specs.Pipeline.{Task, over_keys}
 use Rattle.redis_batches.specs.PipelinePlan.{pieces_of}
 use Rattle.redis_batches.specs.Tasks.{slots_of_task}
-use Rattle.redis_batches.specs.Replies.{AreRepliesTo, all_replies, as_outcome}
+use Rattle.redis_batches.specs.Replies.{AreRepliesTo, all_replies}
 use Rattle.redis_batches.proofs.Answered.{with_reply}
 use Rattle.redis_batches.proofs.ServerReplies.{IsReplyByParts, IsShared, answer_is}
 use Rattle.redis_batches.proofs.Untouched.{pieces_more}
@@ -28,10 +29,7 @@ module _ {C : Type 0} (step : Step C) where
   -- the reply of a command over many keys
   keys_reply : (command : MultiKey) → ShareOut (slots_in command) command.tuples → (held : HeldBySlot C) (one : Keyspace C) → IsAssembled command held one → (reply : Answer)
       → IsReplyByParts command (all_replies (map Ok (replies_by step command held))) reply → reply ≡ Ok (reply_to step command one)
-  keys_reply command share held one assembled reply made =
-      answer_is reply (reply_to step command one)
-      (outcome_amid step command share held one assembled (replies_by step command held) (as_outcome reply) refl
-      (subst (λ found. IsReplyByParts command found reply) (all_given (replies_by step command held)) made))
+  keys_reply command share held one assembled reply made = grind (arith, common_steps, answer_is, outcome_amid, IsReplyByParts, all_given)
 
   amid_at : (before later : List Task) (command : MultiKey) (given replies : List Answer) → AllByRecursion IsShared (before ++ over_keys command ∷ later) → AreRepliesTo (before ++ over_keys command ∷ later) given replies
       → (held : HeldBySlot C) (one : Keyspace C) → IsAssembled command held one → take (length (slots_in command)) (drop (length (pieces_of before)) given) ≡ map Ok (replies_by step command held)
@@ -49,7 +47,4 @@ module _ {C : Type 0} (step : Step C) where
 
 -- The replies of a pipeline are so served.
 pub served_amid : (C : Type 0) (tasks : List Task) (given replies : List Answer) → AllByRecursion IsShared tasks → AreRepliesTo tasks given replies → AreServedAmid C tasks given replies
-served_amid C tasks given replies share made = λ before later command is. (
-  λ step held one assembled own. amid_at step before later command given replies (subst (AllByRecursion IsShared) is share) (subst (λ ts. AreRepliesTo ts given replies) is made) held one assembled own,
-  acts_by_slot C command,
-)
+served_amid C tasks given replies share made = grind (arith, common_steps, amid_at, IsShared, acts_by_slot)

@@ -8,7 +8,6 @@ use Rattle.std.proofs.lemmas.Grind.{common_steps}
 use Rattle.resp_core.specs.Answer.{Answer, answer_of}
 use Rattle.resp_core.specs.ErrorParts.{ErrorParts}
 use Rattle.resp_core.specs.Reply.{Reply}
-use Rattle.resp_core.specs.View.{view}
 use Rattle.resp_core.specs.declared.value.Value.{Value}
 use Rattle.redis_batches.specs.Replies.{all_replies, values_among}
 
@@ -51,6 +50,4 @@ all_replies_long (answer ∷ answers) replies all = grind (arith, common_steps, 
 -- values that were found of all answers are as many
 pub values_long : (found : Result (Vec Value Global) ErrorParts) (values : Vec Value Global) (answers : List (Result Value ErrorParts)) → found ≡ Ok values
     → values_among found ≡ all_replies (map answer_of (reverse answers)) → length values.items ≡ length answers
-values_long found values answers is all =
-    let long = all_replies_long (map answer_of (reverse answers)) (map view values.items) (sym all ∙ ap values_among is) in
-    sym (length-map values.items view) ∙ long ∙ length-map (reverse answers) answer_of ∙ length-reverse answers
+values_long found values answers is all = grind (arith, common_steps, all_replies_long, length-map, length-reverse)

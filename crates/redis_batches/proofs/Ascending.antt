@@ -1,5 +1,6 @@
 -- The numbers below a number, in ascending order.
 use Rattle.std.proofs.Common.{◌≡◌, ℕ, ◌<◌, All, arith, length, get_or}
+use Rattle.std.proofs.lemmas.Grind.{common_steps}
 use Rattle.std.specs.List.{range_with_len}
 use Rattle.std.proofs.lemmas.List.FromFn.{length-range_with_len, get_or-range_with_len}
 use Rattle.redis_cluster.specs.Orders.{NamesOnce}
@@ -10,9 +11,7 @@ number_at n i d l = omega (arith, get_or-range_with_len 0 n i d l)
 
 -- each is below it
 pub all_below : (n : ℕ) → All (λ k. k < n) (range_with_len 0 n)
-all_below n i d l =
-    let long : length (range_with_len 0 n) ≡ n = length-range_with_len 0 n in
-    omega (arith, number_at n i d (omega (arith, long, l)), long, l)
+all_below n i d l = grind (arith, common_steps, length-range_with_len, number_at)
 
 -- and stands there once
 pub each_once : (n : ℕ) → NamesOnce n (range_with_len 0 n)

@@ -1,5 +1,5 @@
 -- Parts are numbered by their nodes, and the places of each number are a batch.
-use Rattle.std.proofs.Common.{◌≡◌, ◌<◌, ◌≤◌, ℕ, ◌+◌, zero, suc, List, [], ◌∷◌, ◌++◌, true, false, cond, Option, None, Some, MatchOption, Bor, All, refl, sym, ap, subst, ◌∙◌, arith, filter, map, length, take, drop, get_or, option_map}
+use Rattle.std.proofs.Common.{◌≡◌, ◌<◌, ◌≤◌, ℕ, ◌+◌, zero, suc, List, [], ◌∷◌, ◌++◌, true, false, cond, Option, None, Some, MatchOption, Bor, All, refl, sym, ap, subst, ◌∙◌, arith, filter, map, length, take, get_or, option_map}
 use Rattle.std.specs.Prelude.{nat_eq, slice_get, slice_set}
 use Rattle.std.specs.List.{enumerate_from, list_any}
 use Rattle.std.proofs.lemmas.Bool.{eqb-true}
@@ -26,12 +26,6 @@ use Rattle.redis_batches.specs.Grouped.{AreNumbered, index_of, number_in, places
 -- an address is itself
 pub own_address : (a : Address) → same_address a a ≡ true
 own_address a = (address_decides a a).1 refl
-
--- what stands at a place is where the rest begins
-pub at_drop : {X Y : Type 0} (f : X → Y) (xs : List X) (i : ℕ) (x : X) → slice_get xs i ≡ Some x → drop i (map f xs) ≡ f x ∷ drop (i + 1) (map f xs)
-at_drop f [] i x at = absurd (cc)
-at_drop f (y ∷ xs) zero x at = ap (λ z. f z ∷ map f xs) (same_Some y x at)
-at_drop f (y ∷ xs) (suc i) x at = let e : suc (i + 1) ≡ suc i + 1 = omega arith in at_drop f xs i x at ∙ ap (λ k. f x ∷ drop k (f y ∷ map f xs)) e
 
 -- and comes next after those before
 pub at_take : {X Y : Type 0} (f : X → Y) (xs : List X) (i : ℕ) (x : X) → slice_get xs i ≡ Some x → take (i + 1) (map f xs) ≡ take i (map f xs) ++ f x ∷ []
@@ -107,9 +101,7 @@ numbered_known nodes found numbers node are there = record {
 stay : (nodes found : List Address) (last : Address) → All (λ k. k < length found) (map (λ node. index_of node found) nodes)
     → map (λ node. index_of node (found ++ last ∷ [])) nodes ≡ map (λ node. index_of node found) nodes
 stay [] found last below = refl
-stay (node ∷ nodes) found last below =
-    ap (λ n. n ∷ map (λ m. index_of m (found ++ last ∷ [])) nodes) (index_stays node last found (All-head (λ k. k < length found) (index_of node found) (map (λ m. index_of m found) nodes) below))
-    ∙ ap (λ l. index_of node found ∷ l) (stay nodes found last (All-tail (λ k. k < length found) (index_of node found) (map (λ m. index_of m found) nodes) below))
+stay (node ∷ nodes) found last below = grind (arith, common_steps, index_stays, All-head, All-tail, stay nodes found last (All-tail (λ k. k < length found) (index_of node found) (map (λ m. index_of m found) nodes) below))
 
 -- a node that is found for the first time
 pub numbered_new : (nodes found : List Address) (numbers : List ℕ) (node : Address) → same_address node node ≡ true → AreNumbered nodes found numbers → index_of node found ≡ length found
@@ -134,12 +126,7 @@ enumerate_push n (y ∷ xs) x = ap (λ l. (n, y) ∷ l) (enumerate_push (n + 1) 
 
 -- the places of a number, after one place more
 pub places_push : (numbers : List ℕ) (number k : ℕ) → places_in (numbers ++ number ∷ []) k ≡ cond (nat_eq number k) (places_in numbers k ++ length numbers ∷ []) (places_in numbers k)
-places_push numbers number k =
-    ap (λ l. map (λ (x : ℕ × ℕ). x.0) (filter (λ (x : ℕ × ℕ). nat_eq x.1 k) l)) (enumerate_push 0 numbers number)
-    ∙ ap (map (λ (x : ℕ × ℕ). x.0)) (filter-append (λ (x : ℕ × ℕ). nat_eq x.1 k) (enumerate_from 0 numbers) ((0 + length numbers, number) ∷ []))
-    ∙ by_test (nat_eq number k)
-    (λ here. rw here (map_push (λ (x : ℕ × ℕ). x.0) (filter (λ (x : ℕ × ℕ). nat_eq x.1 k) (enumerate_from 0 numbers)) (0 + length numbers, number) ∙ ap (λ n. places_in numbers k ++ n ∷ []) (omega arith)))
-    (λ there. rw there (ap (map (λ (x : ℕ × ℕ). x.0)) (append-nil (filter (λ (x : ℕ × ℕ). nat_eq x.1 k) (enumerate_from 0 numbers)))))
+places_push numbers number k = grind (arith, common_steps, enumerate_push, filter-append, by_test, map_push, append-nil)
 
 -- the places of a number are those of the elements that have it
 places_by : {X : Type 0} (number : X → ℕ) (k n : ℕ) (xs : List X)
@@ -156,31 +143,16 @@ module _ {X : Type 0} (now : X → Address) (nodes found : List X) (numbers : Li
     (more : List ℕ) (push : more ≡ numbers ++ number ∷ []) where
   -- the next node was found before
   pub next_known : number < length (map now found) → AreNumbered (take (i + 1) (map now nodes)) (map now found) more
-  next_known there =
-      let own : index_of (now x) (map now found) < length (map now found) = subst (λ n. n < length (map now found)) is there in
-      let e : more ≡ numbers ++ index_of (now x) (map now found) ∷ [] = push ∙ ap (λ n. numbers ++ n ∷ []) is in
-      subst (λ l. AreNumbered l (map now found) more) (sym (at_take now nodes i x at))
-      (subst (AreNumbered (take i (map now nodes) ++ now x ∷ []) (map now found)) (sym e) (numbered_known (take i (map now nodes)) (map now found) numbers (now x) are own))
+  next_known there = grind (arith, common_steps, at_take now nodes i x, numbered_known)
 
   -- or it is found for the first time
   pub next_new : same_address (now x) (now x) ≡ true → number ≡ length (map now found) → (longer : List X) → longer ≡ found ++ x ∷ []
       → AreNumbered (take (i + 1) (map now nodes)) (map now longer) more
-  next_new same none longer grew =
-      let e : more ≡ numbers ++ index_of (now x) (map now found) ∷ [] = push ∙ ap (λ n. numbers ++ n ∷ []) is in
-      let f : map now longer ≡ map now found ++ now x ∷ [] = ap (map now) grew ∙ map_push now found x in
-      subst (λ l. AreNumbered l (map now longer) more) (sym (at_take now nodes i x at))
-      (subst (λ l. AreNumbered (take i (map now nodes) ++ now x ∷ []) l more) (sym f)
-      (subst (AreNumbered (take i (map now nodes) ++ now x ∷ []) (map now found ++ now x ∷ [])) (sym e) (numbered_new (take i (map now nodes)) (map now found) numbers (now x) same are (sym is ∙ none))))
+  next_new same none longer grew = grind (arith, common_steps, map_push now found x, at_take now nodes i x, numbered_new (take i (map now nodes)) (map now found) numbers (now x) same are (sym is ∙ none))
 
 -- what is found in a list after a write
 get_set : {X Y : Type 0} (f : X → Y) (xs : List X) (i k : ℕ) (x : X) → i < length xs → slice_get (map f (slice_set xs i x)) k ≡ cond (nat_eq i k) (Some (f x)) (slice_get (map f xs) k)
-get_set f xs i k x within =
-    slice_get-map f (slice_set xs i x) k
-    ∙ by_test (nat_eq i k)
-    (λ here. ap (option_map f) (ap (slice_get (slice_set xs i x)) (sym (eqb-true i k here)) ∙ set_here xs i x within)
-    ∙ sym (ap (λ b. cond b (Some (f x)) (slice_get (map f xs) k)) here))
-    (λ there. let back : nat_eq k i ≡ false = grind (arith, nat_tests) in
-    ap (option_map f) (set_there xs i k x back) ∙ sym (slice_get-map f xs k) ∙ sym (ap (λ b. cond b (Some (f x)) (slice_get (map f xs) k)) there))
+get_set f xs i k x within = grind (arith, common_steps, slice_get-map, by_test, eqb-true, set_here, nat_tests, set_there)
 
 -- one place more is listed
 pub listed_more : {X : Type 0} (f : X → List ℕ) (lists : List X) (numbers : List ℕ) (i number : ℕ) (old new : X) → i < length numbers → number ≡ get_or numbers i 0

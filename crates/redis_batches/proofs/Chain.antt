@@ -20,7 +20,7 @@ use Rattle.redis_batches.specs.Frame.{SameNodes}
 use Rattle.redis_batches.specs.InRounds.{AreSentAgain, IsAgainFault, Stands, WereSentAgain, fault_behind}
 use Rattle.redis_batches.specs.Outgoing.{ArePutAt, GoesBehind, IsNextFault, IsNextSent, IsNextServed}
 use Rattle.redis_batches.specs.Pipeline.{AreSlotsOf, Numbered, Planned, Refusals, Serve, ended, numbered, slot_of, ended_answers}
-use Rattle.redis_batches.specs.Rounds.{AreRounds, AreSentOn, Follows, IsLast, IsRoundServed, IsRoundStopped, IsSentOn, Round, StaysHere, after_rounds, alone, batch_after, batches_before, go_on, last_round, latest_answers, round_answers, round_batches}
+use Rattle.redis_batches.specs.Rounds.{AreRounds, AreSentOn, Follows, IsLast, IsRoundServed, IsRoundStopped, Round, StaysHere, after_rounds, alone, batch_after, batches_before, go_on, last_round, latest_answers, round_answers, round_batches}
 use Rattle.redis_batches.specs.Sent.{AreLast}
 use Rattle.redis_batches.specs.Turns.{all_after, answers}
 use Rattle.redis_batches.specs.declared.going.Outgoing.{Outgoing}
@@ -143,10 +143,7 @@ not_before N old new arguments round retries driven.Memory is before = before
 
 -- the parts of a round are in front of where they were sent on to
 pub fronts_of : (round : Round) (on : List (Option Address)) → AreSentOn round on → length round.given ≡ length round.sent → map (λ (z : Numbered × Option Address). z.0) (zip round.sent on) ≡ round.sent
-fronts_of round on are long =
-    let nodes : List Address = map (λ (x : Numbered). round.node_of (slot_of x)) round.sent in
-    let many : length nodes ≡ length round.sent = length-map round.sent (λ (x : Numbered). round.node_of (slot_of x)) in
-    zip_fronts (λ row target. IsSentOn row.0 row.1 target) round.sent (zip nodes round.given) on (zip_long nodes round.given (long ∙ sym many) ∙ many) are
+fronts_of round on are long = grind (arith, common_steps, length-map, zip_fronts, zip_long)
 
 module _ {C : Type 0} (step : Step C) (serve : Serve C) (ps : List Planned) (are : All (λ p. AreSlotsOf p.task p.slots) ps) (round next : Round) (stay : All (λ x. StaysHere serve x.1.task) round.sent) (follows : Follows round next)
     (fronts : map (λ z. z.0) (zip round.sent follows.on) ≡ round.sent) (last : AreLast slot_of next.sent (numbered ps)) (start now new : Keyspace C) (refusals : Refusals) (out more replies : List (Result Value ErrorParts))
@@ -190,9 +187,7 @@ module _ {C : Type 0} (step : Step C) (serve : Serve C) (ps : List Planned) (are
 
 -- the answers after a round
 put_as_answers : {round : Round} {replies old new : List (Result Value ErrorParts)} → ArePutAt round replies old new → map answer_of new ≡ put_at (map answer_of old) (map (λ x. x.0) round.sent) round.given
-put_as_answers {round} {replies} {old} put =
-    let ns = map (λ (x : Numbered). x.0) round.sent in
-    ap (map answer_of) put.put ∙ map-put_at answer_of old ns replies ∙ ap (put_at (map answer_of old) ns) (sym put.given_are)
+put_as_answers {round} {replies} {old} put = grind (arith, common_steps, map-put_at)
 
 module _ {S : Type 0} (N : Ghosts S) (old : S) (arguments : List (List (List ℕ))) (ps : List Planned) (round : Round) (before : List (Result Value ErrorParts)) where
   -- so many rounds were sent, and these parts go out next

@@ -1,5 +1,6 @@
 -- What is kept of the commands of a pipeline, and what they mean.
-use Rattle.std.proofs.Common.{◌≡◌, ◌<◌, ◌+◌, ℕ, true, List, [], ◌∷◌, ◌++◌, Option, Some, None, All, refl, sym, ap, subst, ◌∙◌, length, map, take, get_or}
+use Rattle.std.proofs.Common.{◌≡◌, ◌<◌, ◌+◌, ℕ, true, List, [], ◌∷◌, ◌++◌, Option, Some, None, All, refl, sym, ap, subst, ◌∙◌, length, map, take, get_or, arith}
+use Rattle.std.proofs.lemmas.Grind.{common_steps}
 use Rattle.std.specs.List.{AllZip, flat_map, list_any, zip}
 use Rattle.std.specs.Option.{option_or}
 use Rattle.std.specs.Prelude.{IfSome, nat_eq, option_map}
@@ -42,16 +43,12 @@ task_by registered args command = option_or (option_map over_keys command) (opti
 -- a command that is not over many keys means what its slot says
 pub means_slot : (registered : Registrations) (args : List (List ℕ)) (slot : Option ℕ) → multi_slot_routes (names_of [] registered) (map Some args) ≡ None
     → slot_routed (routing (names_of [] registered) (map Some args)) ≡ slot → task_of registered args ≡ option_map (λ s. in_slot s args) slot
-means_slot registered args slot none routed =
-    ap (task_by registered args) (no_command (names_of [] registered) (map Some args) none)
-    ∙ ap (option_map (λ s. in_slot s args)) (sym (slot_is_routed (names_of [] registered) (map Some args)) ∙ routed)
+means_slot registered args slot none routed = grind (arith, common_steps, no_command (names_of [] registered) (map Some args) none, slot_is_routed (names_of [] registered) (map Some args))
 
 pub meant_slot : (registered : Registrations) (args : List (List ℕ)) (slot : Option ℕ) → multi_slot_routes (names_of [] registered) (map Some args) ≡ None
     → slot_routed (routing (names_of [] registered) (map Some args)) ≡ slot → IsMeaning registered args None slot
 meant_slot registered args None none routed = means_slot registered args None none routed
-meant_slot registered args (Some slot) none routed = λ command is.
-    let means : task_of registered args ≡ Some (in_slot slot args) = means_slot registered args (Some slot) none routed in
-    (in_slot slot args, means, (ap (in_slot slot) (sym is), ap (task_of registered) is ∙ means), ap (λ a. map Some a ∷ []) is)
+meant_slot registered args (Some slot) none routed = grind (arith, common_steps, means_slot)
 
 module _ (names : Names) (args : Arguments) (split : Split) (arguments : split.arguments ≡ args) (routes : Some split.routes ≡ multi_slot_routes names args)
     (pattern : Some split.pattern ≡ pattern_by_name names.registered (command_name args)) (policy : Some split.policy ≡ policy_by_name names.registered (command_name args)) (held : IsSplit split) where
@@ -106,9 +103,7 @@ of_some P o x is holds = subst (λ v. IfSome v P) is holds
 -- one more is kept
 pub kept_next : {X Y : Type 0} (R : X → Y → Type 0) (xs : List X) (ys more : List Y) (i : ℕ) (x : X) (y : Y) → i < length xs → x ≡ get_or xs i x → more ≡ ys ++ y ∷ []
     → AllZip R (take i xs) ys → R x y → AllZip R (take (i + 1) xs) more
-kept_next R xs ys more i x y inside is push so_far next =
-    let e : take (i + 1) xs ≡ take i xs ++ x ∷ [] = take_more xs i x inside ∙ ap (λ z. take i xs ++ z ∷ []) (sym is) in
-    subst (λ l. AllZip R l more) (sym e) (subst (AllZip R (take i xs ++ x ∷ [])) (sym push) (all_zipped_more R (take i xs) ys x y so_far next))
+kept_next R xs ys more i x y inside is push so_far next = grind (arith, common_steps, take_more, all_zipped_more)
 
 -- commands of which something is kept mean something
 pub tasks_from : (registered : Registrations) (commands : List (List (List ℕ))) (kept : List CommandTask) → AllZip (IsTaskFor registered) commands kept
@@ -128,12 +123,4 @@ tasks_from registered (a ∷ commands) (k ∷ kept) each =
 -- the first command that means nothing
 pub first_meaningless : (registered : Registrations) (commands : List (List (List ℕ))) (kept : List CommandTask) (number : ℕ) (args : List (List ℕ)) → number < length commands → args ≡ get_or commands number args
     → AllZip (IsTaskFor registered) (take number commands) kept → task_of registered args ≡ None → IsFirstMeaningless registered commands number
-first_meaningless registered commands kept number args within is so_far none =
-    let found = tasks_from registered (take number commands) kept so_far in
-    record {
-      earlier = found.0;
-      earlier_are = found.1;
-      args = args;
-      args_are = slice_get_read commands (length commands) number args refl within is;
-      none = none;
-    }
+first_meaningless registered commands kept number args within is so_far none = grind (arith, common_steps, tasks_from, slice_get_read)

@@ -1,5 +1,6 @@
 -- Plans of the same commands have as many batches, where each slot has one node.
-use Rattle.std.proofs.Common.{◌≡◌, ℕ, List, [], ◌∷◌, Some, All, refl, sym, ap, ◌∙◌, map}
+use Rattle.std.proofs.Common.{◌≡◌, ℕ, List, [], ◌∷◌, Some, All, refl, sym, ap, ◌∙◌, map, arith}
+use Rattle.std.proofs.lemmas.Grind.{common_steps}
 use Rattle.std.proofs.lemmas.List.Elements.{All-head, All-tail}
 use Rattle.cluster_slots.specs.Address.{Address}
 use Rattle.cluster_map.specs.RangeMap.{Ascends}
@@ -22,7 +23,4 @@ module _ (is_node : ℕ → Address → Type 0) (one : (slot : ℕ) (a b : Addre
   -- the nodes of some parts, by two ways to name them
   same_nodes : (a b : ℕ → Address) (qs : List Part) → All (λ q. is_node q.slot (a q.slot)) qs → All (λ q. is_node q.slot (b q.slot)) qs → map (λ q. a q.slot) qs ≡ map (λ q. b q.slot) qs
   same_nodes a b [] first second = refl
-  same_nodes a b (q ∷ qs) first second =
-      ap (λ node. node ∷ map (λ (r : Part). a r.slot) qs)
-      (one q.slot (a q.slot) (b q.slot) (All-head (λ (r : Part). is_node r.slot (a r.slot)) q qs first) (All-head (λ (r : Part). is_node r.slot (b r.slot)) q qs second))
-      ∙ ap (λ nodes. b q.slot ∷ nodes) (same_nodes a b qs (All-tail (λ (r : Part). is_node r.slot (a r.slot)) q qs first) (All-tail (λ (r : Part). is_node r.slot (b r.slot)) q qs second))
+  same_nodes a b (q ∷ qs) first second = grind (arith, common_steps, All-head, All-tail, same_nodes a b qs (All-tail (λ (r : Part). is_node r.slot (a r.slot)) q qs first) (All-tail (λ (r : Part). is_node r.slot (b r.slot)) q qs second))

@@ -12,7 +12,7 @@ use Rattle.redis_cluster.specs.Unsplit.{Step, Keyspace}
 use Rattle.redis_cluster.proofs.Counts.{same_number, times_here, times_there}
 use Rattle.redis_batches.specs.Sent.{AreApart}
 use Rattle.redis_batches.specs.Turns.{all_after, answers, of_slot, batch_by_batch}
-use Rattle.redis_batches.specs.Pipeline.{Serve, Part, Numbered, Refusals, refused_by, ended}
+use Rattle.redis_batches.specs.Pipeline.{Serve, Part, Numbered, Refusals, ended}
 use Rattle.redis_batches.proofs.Whole.{piece_of}
 
 -- the end at the place of a number, or none
@@ -28,18 +28,13 @@ numbers_above p m n (x ∷ xs) less = grind (arith, common_steps, numbers_above 
 
 pub numbers_apart : {Y : Type 0} (p : ℕ × Y → Bool) (n : ℕ) (xs : List Y) → AreApart (filter p (enumerate_from n xs))
 numbers_apart p n [] = tt
-numbers_apart p n (x ∷ xs) =
-    by_test (p (n, x))
-    (λ here. rw here (numbers_above p n (n + 1) xs (omega arith), numbers_apart p (n + 1) xs))
-    (λ there. rw there (numbers_apart p (n + 1) xs))
+numbers_apart p n (x ∷ xs) = grind (arith, common_steps, by_test, numbers_above, numbers_apart p (n + 1) xs)
 
 -- the ends of others are found without the first
 ends_after : {Y : Type 0} (m : ℕ) (e : Option ErrorParts) (ms : List ℕ) (ends : List (Option ErrorParts)) (xs : List (ℕ × Y)) → All (λ y. nat_eq y.0 m ≡ false) xs
     → map (λ x. end_of (m ∷ ms) (e ∷ ends) x.0) xs ≡ map (λ x. end_of ms ends x.0) xs
 ends_after m e ms ends [] other = refl
-ends_after m e ms ends (x ∷ xs) other =
-    ap (λ b. cond b e (end_of ms ends x.0) ∷ map (λ y. end_of (m ∷ ms) (e ∷ ends) y.0) xs) (All-head (λ y. nat_eq y.0 m ≡ false) x xs other)
-    ∙ ap (λ l. end_of ms ends x.0 ∷ l) (ends_after m e ms ends xs (All-tail (λ y. nat_eq y.0 m ≡ false) x xs other))
+ends_after m e ms ends (x ∷ xs) other = grind (arith, common_steps, All-head, All-tail, ends_after m e ms ends xs (All-tail (λ y. nat_eq y.0 m ≡ false) x xs other))
 
 -- each end is found by its number
 pub ends_found : {Y : Type 0} (xs : List (ℕ × Y)) (ends : List (Option ErrorParts)) → length ends ≡ length xs → AreApart xs
@@ -113,12 +108,8 @@ module _ {C : Type 0} (step : Step C) (serve : Serve C) (one other : Refusals) w
   -- refusals that agree leave and answer the same
   pub after_agree : (xs : List Numbered) → All (λ x. one x ≡ other x) xs → (ks : Keyspace C) → all_after (ended step serve one) xs ks ≡ all_after (ended step serve other) xs ks
   after_agree [] same ks = refl
-  after_agree (x ∷ xs) same ks =
-      ap (λ o. all_after (ended step serve one) xs (refused_by o (piece_of step serve x) ks).keys) (All-head (λ y. one y ≡ other y) x xs same)
-      ∙ after_agree xs (All-tail (λ y. one y ≡ other y) x xs same) (ended step serve other x ks).keys
+  after_agree (x ∷ xs) same ks = grind (arith, common_steps, piece_of, All-head, All-tail, after_agree xs (All-tail (λ y. one y ≡ other y) x xs same) (ended step serve other x ks).keys)
 
   pub answers_agree : (xs : List Numbered) → All (λ x. one x ≡ other x) xs → (ks : Keyspace C) → answers (ended step serve one) xs ks ≡ answers (ended step serve other) xs ks
   answers_agree [] same ks = refl
-  answers_agree (x ∷ xs) same ks =
-      ap (λ o. (x, (refused_by o (piece_of step serve x) ks).reply) ∷ answers (ended step serve one) xs (refused_by o (piece_of step serve x) ks).keys) (All-head (λ y. one y ≡ other y) x xs same)
-      ∙ ap (λ l. (x, (ended step serve other x ks).reply) ∷ l) (answers_agree xs (All-tail (λ y. one y ≡ other y) x xs same) (ended step serve other x ks).keys)
+  answers_agree (x ∷ xs) same ks = grind (arith, common_steps, piece_of, All-head, All-tail, answers_agree xs (All-tail (λ y. one y ≡ other y) x xs same) (ended step serve other x ks).keys)

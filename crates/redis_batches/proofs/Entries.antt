@@ -1,5 +1,6 @@
 -- The entries of a batch in the trace, and with what its parts ended.
 use Rattle.std.proofs.Common.{◌≡◌, ◌<◌, ℕ, ◌+◌, zero, suc, List, [], ◌∷◌, ◌++◌, Option, Some, All, refl, sym, ap, subst, ◌∙◌, arith, map, length, get_or}
+use Rattle.std.proofs.lemmas.Grind.{common_steps}
 use Rattle.std.specs.Prelude.{nat_eq, slice_get}
 use Rattle.std.specs.List.{zip}
 use Rattle.std.specs.Option.{option_to_list}
@@ -38,9 +39,7 @@ module _ (nodes : ℕ → Address) (batch : ℕ → ℕ) (parts : List (List (Li
   -- refusals that agree make one list of entries
   pub entries_agree : (one other : Refusals) (xs : List Numbered) → All (λ x. one x ≡ other x) xs
       → map (part_entry nodes batch parts one) xs ≡ map (part_entry nodes batch parts other) xs
-  entries_agree one other xs same =
-      map_agree (part_entry nodes batch parts one) (part_entry nodes batch parts other) xs
-      (λ n d inside. ap (λ o. entry (nodes (batch (slot_of (get_or xs n d)))) (get_or parts (get_or xs n d).0 []) (ending_by o)) (same n d inside))
+  entries_agree one other xs same = grind (arith, common_steps, map_agree)
 
   -- the entries of a batch are those of its parts
   pub own_entries : (refusals : Refusals) (xs : List Numbered) (k : ℕ) (ends : List (Option ErrorParts)) → map refusals (of_slot (λ x. batch (slot_of x)) k xs) ≡ ends

@@ -1,5 +1,6 @@
 -- What was refused is answered by its error: one batch more, and the end.
 use Rattle.std.proofs.Common.{◌≡◌, ◌<◌, ℕ, ◌+◌, zero, suc, List, [], ◌∷◌, false, Some, Result, Err, All, sym, ap, ◌∙◌, arith, map, option_map, length, get_or}
+use Rattle.std.proofs.lemmas.Grind.{common_steps}
 use Rattle.std.specs.Prelude.{Option, nat_eq, slice_get}
 use Rattle.std.specs.List.{enumerate_from}
 use Rattle.std.proofs.lemmas.List.{length-map}
@@ -65,12 +66,8 @@ module _ (batch : ℕ → ℕ) (ps : List Planned) (k : ℕ) where
 errors_from : (refusals : Refusals) (out : List (Result Value ErrorParts)) (n : ℕ) (qs : List Part) → All (HasError refusals out) (enumerate_from n qs) → (i : ℕ) (error : ErrorParts)
     → slice_get (map refusals (enumerate_from n qs)) i ≡ Some (Some error) → option_map answer_of (slice_get out (n + i)) ≡ Some (Err error)
 errors_from refusals out n [] all i error at = absurd (cc at)
-errors_from refusals out n (q ∷ qs) all zero error at =
-    ap (λ m. option_map answer_of (slice_get out m)) (omega arith)
-    ∙ All-head (HasError refusals out) (n, q) (enumerate_from (n + 1) qs) all error (same_Some (refusals (n, q)) (Some error) at)
-errors_from refusals out n (q ∷ qs) all (suc i) error at =
-    ap (λ m. option_map answer_of (slice_get out m)) (omega arith)
-    ∙ errors_from refusals out (n + 1) qs (All-tail (HasError refusals out) (n, q) (enumerate_from (n + 1) qs) all) i error at
+errors_from refusals out n (q ∷ qs) all zero error at = grind (arith, common_steps, All-head, same_Some)
+errors_from refusals out n (q ∷ qs) all (suc i) error at = grind (arith, common_steps, errors_from refusals out (n + 1) qs (All-tail (HasError refusals out) (n, q) (enumerate_from (n + 1) qs) all) i error)
 
 pub errors_at_end : (refusals : Refusals) (out : List (Result Value ErrorParts)) (qs : List Part) → All (HasError refusals out) (enumerate_from 0 qs) → AnswersRefusals (map refusals (enumerate_from 0 qs)) (map answer_of out)
 errors_at_end refusals out qs all i error at =

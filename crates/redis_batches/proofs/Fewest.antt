@@ -1,5 +1,6 @@
 -- Batches by nodes are as many as the different nodes of the parts.
-use Rattle.std.proofs.Common.{◌≡◌, ◌<◌, ◌+◌, ℕ, suc, List, [], ◌∷◌, Option, Some, None, All, sym, ap, subst, ◌∙◌, arith, filter, map, length, option_map, get_or}
+use Rattle.std.proofs.Common.{◌≡◌, ◌<◌, ◌+◌, ℕ, suc, List, [], ◌∷◌, Option, Some, None, All, sym, ap, subst, ◌∙◌, arith, filter, map, length, option_map}
+use Rattle.std.proofs.lemmas.Grind.{common_steps}
 use Rattle.std.specs.Prelude.{nat_eq, slice_get}
 use Rattle.std.specs.List.{enumerate_from}
 use Rattle.std.proofs.lemmas.Bool.{eqb-true}
@@ -27,9 +28,7 @@ places_hold P k numbers holds = places_from P 0 k numbers (λ i at. let e : i �
 -- the node whose number this is stands at the number
 node_there : (nodes : Option Address) (found : List Address) (k : ℕ) → k < length found → option_map (λ node. index_of node found) nodes ≡ Some k → nodes ≡ slice_get found k
 node_there None found k within is = absurd (cc is)
-node_there (Some node) found k within is =
-    let same : index_of node found ≡ k = same_Some (index_of node found) k is in
-    sym (get_there found k node within ∙ ap Some (ap (λ i. get_or found i node) (sym same) ∙ node_at_index node found node (subst (λ i. i < length found) (sym same) within)))
+node_there (Some node) found k within is = grind (arith, common_steps, same_Some (index_of node found) k is, get_there found k node within, node_at_index)
 
 -- There are no more batches than nodes.
 pub fewest : (batches : Batches) (nodes : List Address) → IsPlan batches → length nodes ≡ length batches.parts → IsByNode batches nodes → AreFewest batches

@@ -1,5 +1,6 @@
 -- The answers that nodes gave, at the places of the parts.
 use Rattle.std.proofs.Common.{◌≡◌, ◌<◌, ◌≤◌, ◌∙◌, ℕ, ◌+◌, zero, suc, List, [], ◌∷◌, ◌++◌, true, false, All, refl, sym, ap, arith, length, map, get_or, take}
+use Rattle.std.proofs.lemmas.Grind.{common_steps}
 use Rattle.std.specs.Prelude.{nat_eq, slice_get, slice_set}
 use Rattle.std.specs.List.{enumerate_from}
 use Rattle.std.specs.Option.{option_to_list}
@@ -42,9 +43,7 @@ module _ {X : Type 0} where
   pub put_there : (all : List X) (places : List ℕ) (xs : List X) (j : ℕ) → All (λ p. nat_eq j p ≡ false) places → slice_get (put_at all places xs) j ≡ slice_get all j
   put_there all [] xs j other = refl
   put_there all (p ∷ places) [] j other = refl
-  put_there all (p ∷ places) (x ∷ xs) j other =
-      set_there (put_at all places xs) p j x (All-head (λ q. nat_eq j q ≡ false) p places other)
-      ∙ put_there all places xs j (All-tail (λ q. nat_eq j q ≡ false) p places other)
+  put_there all (p ∷ places) (x ∷ xs) j other = grind (arith, common_steps, set_there, All-head, All-tail, put_there all places xs j (All-tail (λ q. nat_eq j q ≡ false) p places other))
 
   pub others_stay : (all : List X) (places : List ℕ) (xs : List X) (others : List ℕ) → AreElsewhere places others → in_order (put_at all places xs) others ≡ in_order all others
   others_stay all places xs [] apart = refl
@@ -54,20 +53,14 @@ module _ {X : Type 0} where
 
   set_others : (all : List X) (p : ℕ) (x : X) (others : List ℕ) → All (λ q. nat_eq q p ≡ false) others → in_order (slice_set all p x) others ≡ in_order all others
   set_others all p x [] apart = refl
-  set_others all p x (j ∷ others) apart =
-      ap (λ o. option_to_list o ++ in_order (slice_set all p x) others) (set_there all p j x (All-head (λ q. nat_eq q p ≡ false) j others apart))
-      ∙ ap (λ l. option_to_list (slice_get all j) ++ l) (set_others all p x others (All-tail (λ q. nat_eq q p ≡ false) j others apart))
+  set_others all p x (j ∷ others) apart = grind (arith, common_steps, set_there, All-head, All-tail, set_others all p x others (All-tail (λ q. nat_eq q p ≡ false) j others apart))
 
   -- and what was put stands at its places
   own_stand : (all : List X) (places : List ℕ) (xs : List X) → AreDistinct places → All (λ p. p < length all) places → length xs ≡ length places → in_order (put_at all places xs) places ≡ xs
   own_stand all [] [] apart within long = refl
   own_stand all [] (x ∷ xs) apart within long = absurd (omega (arith, long))
   own_stand all (p ∷ places) [] apart within long = absurd (omega (arith, long))
-  own_stand all (p ∷ places) (x ∷ xs) apart within long =
-      let rest : List X = put_at all places xs in
-      let room : p < length rest = omega (arith, All-head (λ q. q < length all) p places within, length-put_at all places xs) in
-      ap (λ o. option_to_list o ++ in_order (slice_set rest p x) places) (set_here rest p x room)
-      ∙ ap (λ l. x ∷ l) (set_others rest p x places apart.0 ∙ own_stand all places xs apart.1 (All-tail (λ q. q < length all) p places within) (omega (arith, long)))
+  own_stand all (p ∷ places) (x ∷ xs) apart within long = grind (arith, common_steps, All-head, length-put_at, set_here, set_others, All-tail, own_stand all places xs apart.1 (All-tail (λ q. q < length all) p places within) (omega (arith, long)))
 
   -- each of them at its own
   put_here : (all : List X) (places : List ℕ) (xs : List X) → AreDistinct places → All (λ p. p < length all) places → length xs ≡ length places → (i d : ℕ) → i < length places
@@ -76,9 +69,7 @@ module _ {X : Type 0} where
   put_here all (p ∷ places) [] apart within long i d inside = absurd (omega (arith, long))
   put_here all (p ∷ places) (x ∷ xs) apart within long zero d inside =
       set_here (put_at all places xs) p x (omega (arith, All-head (λ q. q < length all) p places within, length-put_at all places xs))
-  put_here all (p ∷ places) (x ∷ xs) apart within long (suc i) d inside =
-      set_there (put_at all places xs) p (get_or places i d) x (apart.0 i d (omega (arith, inside)))
-      ∙ put_here all places xs apart.1 (All-tail (λ q. q < length all) p places within) (omega (arith, long)) i d (omega (arith, inside))
+  put_here all (p ∷ places) (x ∷ xs) apart within long (suc i) d inside = grind (arith, common_steps, set_there, All-tail, put_here all places xs apart.1 (All-tail (λ q. q < length all) p places within) (omega (arith, long)) i d (omega (arith, inside)))
 
 -- numbers that are counted from one on
 from_on : (n : ℕ) (qs : List Part) → All (λ (x : Numbered). n ≤ x.0) (enumerate_from n qs)

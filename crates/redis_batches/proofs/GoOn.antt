@@ -1,8 +1,8 @@
 -- Which parts go out again, and where.
-use Rattle.std.proofs.Common.{◌≡◌, ℕ, List, [], ◌∷◌, ◌++◌, true, false, cond, Option, None, Some, IsSome, Ok, Err, All, refl, sym, ap, subst, ◌∙◌, arith, get_or, map, length}
+use Rattle.std.proofs.Common.{◌≡◌, ℕ, List, [], ◌∷◌, ◌++◌, true, false, Option, None, Some, IsSome, Ok, Err, All, refl, sym, ap, subst, ◌∙◌, arith, get_or, map, length}
 use Rattle.std.specs.Prelude.{nat_eq}
 use Rattle.std.specs.List.{AllZip, zip}
-use Rattle.std.specs.Option.{option_or, unwrap_or}
+use Rattle.std.specs.Option.{unwrap_or}
 use Rattle.std.proofs.lemmas.Bool.{eqb-true}
 use Rattle.std.proofs.lemmas.List.Elements.{All-nil, All-cons, All-head, All-tail}
 use Rattle.std.proofs.lemmas.Grind.{common_steps}
@@ -11,7 +11,6 @@ use Rattle.cluster_slots.specs.Address.{Address}
 use Rattle.resp_core.specs.ErrorParts.{ErrorParts}
 use Rattle.resp_core.proofs.Cases.{by_test}
 use Rattle.redis_cluster.specs.Unsplit.{Step, Keyspace}
-use Rattle.redis_cluster.proofs.Counts.{same_number}
 use Rattle.redis_batches.specs.Turns.{answers, of_slot}
 use Rattle.redis_batches.specs.Pipeline.{Numbered, Refusals, Serve, Task, ended, in_slot, over_keys, refused_by, run, slot_of}
 use Rattle.redis_batches.specs.Rounds.{IsSentOn, SendsOn, StaysHere, go_on, goes_to, is_settled}
@@ -69,19 +68,11 @@ module _ {X : Type 0} (slot : X → ℕ) where
 
   -- each of them has somewhere to go
   still_some : (s : ℕ) (z : X × Option Address) (zs : List (X × Option Address)) → IsSome (goes_to slot s zs) → IsSome (goes_to slot s (z ∷ zs))
-  still_some s z zs there = or_some (goes_to slot s zs) (cond (nat_eq (slot z.0) s) z.1 None) there
-    where
-      or_some : (a b : Option Address) → IsSome a → IsSome (option_or a b)
-      or_some (Some n) b is = is
-      or_some None b is = absurd (cc is)
+  still_some s z zs there = grind (arith, common_steps)
 
   own_some : (x : X) (on : Option Address) (zs : List (X × Option Address)) → IsSome on → IsSome (goes_to slot (slot x) ((x, on) ∷ zs))
   own_some x None zs some = absurd (cc some)
-  own_some x (Some node) zs some = rw (same_number (slot x)) (or_last (goes_to slot (slot x) zs))
-    where
-      or_last : (a : Option Address) → IsSome (option_or a (Some node))
-      or_last (Some n) = refl
-      or_last None = refl
+  own_some x (Some node) zs some = grind (arith, common_steps)
 
   pub go_somewhere : (zs : List (X × Option Address)) → All (λ x. IsSome (goes_to slot (slot x) zs)) (go_on slot zs)
   go_somewhere [] = All-nil (λ x. IsSome (goes_to slot (slot x) []))
@@ -118,9 +109,7 @@ module _ {X : Type 0} (name : X → ℕ) (slot : X → ℕ) (named : ℕ → ℕ
   settled_by : (s : ℕ) (xs : List X) (on : List (Option Address)) → All (λ x. named (name x) ≡ slot x) xs → is_settled named s (zip (map name xs) on) ≡ is_settled slot s (zip xs on)
   settled_by s [] on same = refl
   settled_by s (x ∷ xs) [] same = refl
-  settled_by s (x ∷ xs) (o ∷ on) same =
-      let first : named (name x) ≡ slot x = All-head (λ y. named (name y) ≡ slot y) x xs same in
-      rw (first, settled_by s xs on (All-tail (λ y. named (name y) ≡ slot y) x xs same)) refl
+  settled_by s (x ∷ xs) (o ∷ on) same = grind (arith, common_steps, All-head, All-tail, settled_by s xs on (All-tail (λ y. named (name y) ≡ slot y) x xs same))
 
   pub go_by : (xs : List X) (on : List (Option Address)) → All (λ x. named (name x) ≡ slot x) xs → go_on named (zip (map name xs) on) ≡ map name (go_on slot (zip xs on))
   go_by [] on same = refl
@@ -138,9 +127,7 @@ module _ {X : Type 0} (name : X → ℕ) (slot : X → ℕ) (named : ℕ → ℕ
   pub goes_by : (s : ℕ) (xs : List X) (on : List (Option Address)) → All (λ x. named (name x) ≡ slot x) xs → goes_to named s (zip (map name xs) on) ≡ goes_to slot s (zip xs on)
   goes_by s [] on same = refl
   goes_by s (x ∷ xs) [] same = refl
-  goes_by s (x ∷ xs) (o ∷ on) same =
-      let first : named (name x) ≡ slot x = All-head (λ y. named (name y) ≡ slot y) x xs same in
-      rw (first, goes_by s xs on (All-tail (λ y. named (name y) ≡ slot y) x xs same)) refl
+  goes_by s (x ∷ xs) (o ∷ on) same = grind (arith, common_steps, All-head, All-tail, goes_by s xs on (All-tail (λ y. named (name y) ≡ slot y) x xs same))
 
 module _ {C : Type 0} (step : Step C) (serve : Serve C) where
   -- an error of a command's own sends it nowhere

@@ -1,5 +1,6 @@
 -- The parts of a slot go out in the order of the pipeline, and their last answers come in it.
 use Rattle.std.proofs.Common.{◌≡◌, ◌<◌, ℕ, ◌+◌, suc, List, [], ◌∷◌, ◌++◌, Bool, true, false, not, Option, Some, All, refl, sym, ap, subst, ◌∙◌, arith, filter, map, length, get_or, zero-add}
+use Rattle.std.proofs.lemmas.Grind.{common_steps}
 use Rattle.std.specs.Prelude.{nat_eq, slice_get}
 use Rattle.std.specs.List.{enumerate_from, zip, range_with_len}
 use Rattle.std.specs.Option.{option_to_list}
@@ -132,9 +133,7 @@ module _ (round next : Round) (follows : Follows round next) (long : length roun
 
     -- and the others come later
     one_round : (later : List Numbered) → after ≡ of_slot slot_of s later → of_slot slot_of s round.sent ≡ of_slot slot_of s (filter stays parts ++ later)
-    one_round later rest =
-        (next_last s).1 ∙ ap (λ l. before ++ l) rest ∙ ap (λ l. l ++ of_slot slot_of s later) (sym those_stay)
-        ∙ sym (filter-append (λ x. nat_eq (slot_of x) s) (filter stays parts) later)
+    one_round later rest = grind (arith, common_steps, next_last, those_stay, filter-append)
 
 module _ {S : Type 0} (N : Ghosts S) (old new : S) (arguments : List (List (List ℕ))) where
   -- Of each slot, the last answers come in the order of the parts.

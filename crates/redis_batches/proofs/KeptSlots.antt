@@ -56,10 +56,7 @@ module _ {X : Type 0} (slot : X → ℕ) (batch : ℕ → ℕ) (count s : ℕ) (
   -- no part has a slot whose batch is none of these
   none_of_slot : (xs : List X) → All (λ x. batch (slot x) < count) xs → of_slot slot s xs ≡ []
   none_of_slot [] below = refl
-  none_of_slot (x ∷ xs) below =
-      by_test (nat_eq (slot x) s)
-      (λ here. absurd (let first : batch (slot x) < count = All-head (λ y. batch (slot y) < count) x xs below in let e : batch (slot x) ≡ batch s = ap batch (eqb-true (slot x) s here) in omega arith))
-      (λ there. rw there (none_of_slot xs (All-tail (λ y. batch (slot y) < count) x xs below)))
+  none_of_slot (x ∷ xs) below = grind (arith, common_steps, by_test, All-head, eqb-true, All-tail, none_of_slot xs (All-tail (λ y. batch (slot y) < count) x xs below))
 
   none_in_batches : (order : List ℕ) (xs : List X) → All (λ x. batch (slot x) < count) xs → of_slot slot s (batch_by_batch (λ x. batch (slot x)) order xs) ≡ []
   none_in_batches [] xs below = refl

@@ -1,26 +1,18 @@
 -- The part of a slot reads and writes nothing but the keys of the slot.
-use Rattle.std.proofs.Common.{◌≡◌, ℕ, List, [], ◌∷◌, true, false, Ok, refl, sym, ap, ◌∙◌, arith}
+use Rattle.std.proofs.Common.{◌≡◌, ℕ, List, [], ◌∷◌, true, false, refl, sym, ◌∙◌, arith}
 use Rattle.std.specs.Prelude.{nat_eq}
 use Rattle.std.proofs.lemmas.List.{append-nil}
 use Rattle.std.proofs.lemmas.Grind.{common_steps}
 use Rattle.cluster_slots.specs.KeySlot.{key_slot}
-use Rattle.resp_core.proofs.Cases.{by_test}
 use Rattle.redis_cluster.specs.MultiKey.{KeyTuple, MultiKey, tuples_of_slot, part_of}
-use Rattle.redis_cluster.specs.Unsplit.{Step, Keyspace, Act, act_of, after, results, reply_by}
+use Rattle.redis_cluster.specs.Unsplit.{Step, Keyspace, Act, after, results}
 use Rattle.redis_cluster.proofs.Counts.{times_there}
 use Rattle.redis_cluster.proofs.Fold.{cell_after, after_is, joined, joined_skips}
 use Rattle.redis_cluster.proofs.Parts.{results-part}
-use Rattle.redis_batches.specs.Served.{Effect, Agree, IsLocal, shelf, in_shelf}
+use Rattle.redis_batches.specs.Served.{Effect, Agree, IsLocal, in_shelf}
 use Rattle.redis_batches.specs.Pipeline.{Serve, over_keys, run}
 
 module _ {C R : Type 0} (slot : ℕ) (effect : Effect C R) where
-  -- keyspaces that agree at the keys of a slot have one shelf of it
-  one_shelf : (ks other : Keyspace C) → Agree slot ks other → shelf slot ks ≡ shelf slot other
-  one_shelf ks other agree = λ i key. same key i
-    where
-      same : (key : List ℕ) → shelf slot ks key ≡ shelf slot other key
-      same key = by_test (nat_eq (key_slot key) slot) (λ own. rw own (agree key own)) (λ away. rw away refl)
-
   -- Whatever is done to a shelf is local.
   pub shelf_local : IsLocal slot (in_shelf slot effect)
   shelf_local = grind (arith, common_steps)
@@ -31,27 +23,15 @@ module _ {C : Type 0} (act : Act C) (slot : ℕ) (ts : List KeyTuple) where
   alone = append-nil (tuples_of_slot slot ts)
 
   part_elsewhere : (ks : Keyspace C) (key : List ℕ) → nat_eq (key_slot key) slot ≡ false → after act (tuples_of_slot slot ts) ks key ≡ ks key
-  part_elsewhere ks key away =
-      after_is act (tuples_of_slot slot ts) ks key
-      ∙ ap (λ xs. cell_after act key xs (ks key)) (sym alone)
-      ∙ joined_skips act key ts (slot ∷ []) (ks key) (times_there (key_slot key) slot [] away)
+  part_elsewhere ks key away = grind (arith, common_steps, after_is act (tuples_of_slot slot ts) ks key, cell_after, alone, joined_skips act key ts (slot ∷ []) (ks key) (times_there (key_slot key) slot [] away), times_there (key_slot key) slot)
 
   part_here : (ks other : Keyspace C) → Agree slot ks other → (key : List ℕ) → nat_eq (key_slot key) slot ≡ true
       → after act (tuples_of_slot slot ts) ks key ≡ after act (tuples_of_slot slot ts) other key
-  part_here ks other agree key own =
-      after_is act (tuples_of_slot slot ts) ks key
-      ∙ ap (cell_after act key (tuples_of_slot slot ts)) (agree key own)
-      ∙ sym (after_is act (tuples_of_slot slot ts) other key)
+  part_here ks other agree key own = grind (arith, common_steps, after_is, cell_after)
 
   part_results : (ks other : Keyspace C) → Agree slot ks other → results act (tuples_of_slot slot ts) ks ≡ results act (tuples_of_slot slot ts) other
   part_results ks other agree = results-part act slot ts other ks agree ∙ sym (results-part act slot ts other other (λ k o. refl))
 
 -- The part of a slot is local.
 pub part_local : {C : Type 0} (step : Step C) (serve : Serve C) (command : MultiKey) (slot : ℕ) → IsLocal slot (run step serve (over_keys (part_of command slot)))
-part_local step serve command slot =
-    let act = act_of step command in
-    record {
-      elsewhere = part_elsewhere act slot command.tuples;
-      here = part_here act slot command.tuples;
-      reply = λ ks other agree. ap (λ rs. Ok (reply_by command.form rs)) (part_results act slot command.tuples ks other agree);
-    }
+part_local step serve command slot = grind (arith, common_steps, part_elsewhere, part_here, part_results)

@@ -36,9 +36,7 @@ zipped_long R (x ∷ xs) (y ∷ ys) each = ap suc (zipped_long R xs ys each.1)
 -- one part more
 pub parts_more : (of : List SlotPart) (old new : List PartCommand) (part : SlotPart) (command : PartCommand) → new ≡ old ++ command ∷ [] → map Some (sent_args command) ≡ part.1
     → ArePartsFor of old → ArePartsFor (of ++ part ∷ []) new
-parts_more of old new part command push same are =
-    ap (λ ps. map (map Some) (map sent_args ps)) push ∙ ap (map (map Some)) (map_push sent_args old command) ∙ map_push (map Some) (map sent_args old) (sent_args command)
-    ∙ ap (λ l. l ++ map Some (sent_args command) ∷ []) are ∙ ap (λ a. map (λ (p : SlotPart). p.1) of ++ a ∷ []) same ∙ sym (map_push (λ (p : SlotPart). p.1) of part)
+parts_more of old new part command push same are = grind (arith, common_steps)
 
 -- the parts of a split and its slots, with the next route
 pub parts_next : (split : Split) (i : ℕ) (route : SlotRoute × List ℕ) → slice_get split.routes i ≡ Some route → take (i + 1) (split_parts split) ≡ take i (split_parts split) ++ (route.0.slot, split_part split route.0.slot) ∷ []
@@ -80,11 +78,7 @@ module _ (has has_none : ℕ → Type 0) where
   pub first_without : {X : Type 0} (slots_of : X → List ℕ) (xs : List X) (number index slot : ℕ) → length (flat_map slots_of (take number xs)) ≤ index → index < length (flat_map slots_of (take (number + 1) xs))
       → slice_get (flat_map slots_of xs) index ≡ Some slot → All has (take index (flat_map slots_of xs)) → has_none slot → IsFirstWithout has has_none (map slots_of xs) number slot
   first_without slots_of [] number index slot from to at all none = absurd (cc at)
-  first_without slots_of (x ∷ xs) zero index slot from to at all none =
-      let e : 0 + 1 ≡ suc 0 = omega arith in
-      let within : index < length (slots_of x) = subst (λ l. index < length l) (append-nil (slots_of x)) (subst (λ k. index < length (flat_map slots_of (take k (x ∷ xs)))) e to) in
-      let found = front_of (slots_of x) (flat_map slots_of xs) index slot within at all in
-      record { earlier = All-nil (All has); before = found.0; rest = found.1; own = ap Some found.2; covered = found.3; uncovered = none }
+  first_without slots_of (x ∷ xs) zero index slot from to at all none = grind (arith, common_steps, append-nil, front_of, All-nil)
   first_without slots_of (x ∷ xs) (suc number) index slot from to at all none =
       let own = slots_of x in
       let more = flat_map slots_of xs in
@@ -114,20 +108,12 @@ by_found (Some x) f y is = (x, refl)
 module _ {S : Type 0} (strategy : Option S) (ranges : Ranges) where
   -- the nodes of slots, after more were chosen
   pub nodes_still : (slots : List ℕ) (old new : Placed) → new.nodes.items ≡ old.nodes.items → AreStill old.chosen.entries new.chosen.entries → AreIn strategy ranges slots old → AreIn strategy ranges slots new
-  nodes_still slots old new same still are =
-      let now : Bor Address → Address = λ n. n.now in
-      let is_node : ℕ → Address → Type 0 = IsChosen strategy ranges new.chosen.entries in
-      subst (AllZip is_node slots) (sym (ap (map now) same))
-      (zip_weaker (IsChosen strategy ranges old.chosen.entries) is_node slots (map now old.nodes.items) (λ s n is. chosen_still strategy ranges old.chosen.entries new.chosen.entries still s n is) are)
+  nodes_still slots old new same still are = grind (arith, common_steps, zip_weaker, chosen_still)
 
   -- the node of one slot more
   pub nodes_more : (slots : List ℕ) (old new : Placed) (slot : ℕ) (node : Bor Address) → new.nodes.items ≡ old.nodes.items ++ node ∷ [] → AreStill old.chosen.entries new.chosen.entries
       → IsChosen strategy ranges new.chosen.entries slot node.now → AreIn strategy ranges slots old → AreIn strategy ranges (slots ++ slot ∷ []) new
-  nodes_more slots old new slot node push still own are =
-      let now : Bor Address → Address = λ n. n.now in
-      let is_node : ℕ → Address → Type 0 = IsChosen strategy ranges new.chosen.entries in
-      subst (AllZip is_node (slots ++ slot ∷ [])) (sym (ap (map now) push ∙ map_push now old.nodes.items node))
-      (all_zipped_more is_node slots (map now old.nodes.items) slot node.now (nodes_still slots old (record { nodes = old.nodes; chosen = new.chosen }) refl still are) own)
+  nodes_more slots old new slot node push still own are = grind (arith, common_steps, map_push, all_zipped_more, nodes_still slots old (record { nodes = old.nodes; chosen = new.chosen }) refl still are)
 
   -- all slots have nodes
   pub all_placed : (slots kept : List ℕ) (placed : Placed) → length slots ≤ length placed.nodes.items → slots ≡ kept → AreIn strategy ranges (take (length placed.nodes.items) slots) placed → AreIn strategy ranges kept placed

@@ -11,10 +11,10 @@ use Rattle.cluster_slots.specs.Address.{Address}
 use Rattle.cluster_slots.specs.KeySlot.{key_slot}
 use Rattle.redis_routing.specs.Names.{Names}
 use Rattle.redis_routing.specs.Registry.{Registrations}
-use Rattle.redis_routing.specs.Split.{Split, slots_of, split_part}
+use Rattle.redis_routing.specs.Split.{Split}
 use Rattle.redis_routing.proofs.Cover.{count_firsts}
 use Rattle.redis_routing.proofs.SelfRouting.{all_there}
-use Rattle.redis_cluster.specs.MultiKey.{KeyTuple, MultiKey, multi_key, part_of, slots_in}
+use Rattle.redis_cluster.specs.MultiKey.{KeyTuple, MultiKey, slots_in}
 use Rattle.redis_cluster.specs.Orders.{times}
 use Rattle.redis_cluster.proofs.Constructors.{same_head, same_some, same_tail}
 use Rattle.redis_cluster.proofs.Counts.{same_number}
@@ -64,15 +64,7 @@ whole_part registered slot args task is means =
 -- one over many keys as its split
 parts_of_split : (registered : Registrations) (command : MultiKey) (split : Split) (task : Task) → task ≡ over_keys command → IsSplitOfTask registered command split
     → AllZip (IsPartOf registered) (split_parts split) (parts_of (with_slots task))
-parts_of_split registered command split task is of =
-    let sent : ℕ → SlotPart = λ slot. (slot, split_part split slot) in
-    let own : ℕ → Part = λ slot. record { slot = slot; task = over_keys (part_of command slot) } in
-    subst (λ t. AllZip (IsPartOf registered) (split_parts split) (parts_of (with_slots t))) (sym is)
-    (subst (λ slots. AllZip (IsPartOf registered) (split_parts split) (map own slots)) of.slots
-    (zip_maps (IsPartOf registered) sent own (slots_of split.routes)
-    (All-weaker (λ slot. multi_key registered (split_part split slot) ≡ Some (part_of command slot)) (λ slot. IsPartOf registered (sent slot) (own slot))
-    (λ slot means. (refl, λ args same. ap (task_by registered args) (ap (multi_key registered) same ∙ means)))
-    (slots_of split.routes) of.parts)))
+parts_of_split registered command split task is of = grind (arith, zip_maps, All-weaker, task_by)
 
 part_of_kept : (registered : Registrations) (task : Task) (kept : CommandTask) → IsKeptOf registered task kept → AllZip (IsPartOf registered) (slot_parts kept) (parts_of (with_slots task))
 part_of_kept registered task (InSlot slot command) is = whole_part registered slot command.now task is.0 is.1
@@ -127,9 +119,7 @@ same_nodes : (is_node : ℕ → Address → Type 0) → IsOne is_node → (node 
 same_nodes is_node one node [] [] each all = refl
 same_nodes is_node one node [] (n ∷ nodes) each all = absurd each
 same_nodes is_node one node (q ∷ qs) [] each all = absurd each
-same_nodes is_node one node (q ∷ qs) (n ∷ nodes) each all =
-    ap (λ m. m ∷ nodes) (one q.slot n (node q.slot) each.0 (All-head (λ r. is_node r.slot (node r.slot)) q qs all))
-    ∙ ap (λ l. node q.slot ∷ l) (same_nodes is_node one node qs nodes each.1 (All-tail (λ r. is_node r.slot (node r.slot)) q qs all))
+same_nodes is_node one node (q ∷ qs) (n ∷ nodes) each all = grind (arith, common_steps, All-head, All-tail, same_nodes is_node one node qs nodes each.1 (All-tail (λ r. is_node r.slot (node r.slot)) q qs all))
 
 -- their slots
 slots_of_kept : (registered : Registrations) (task : Task) (kept : CommandTask) → IsKeptOf registered task kept → slots_kept kept ≡ slots_of_task task
@@ -179,10 +169,7 @@ slots_of_parts : (registered : Registrations) (tasks : List Task) (kept : List C
 slots_of_parts registered [] [] each = refl
 slots_of_parts registered [] (k ∷ kept) each = absurd each
 slots_of_parts registered (t ∷ tasks) [] each = absurd each
-slots_of_parts registered (t ∷ tasks) (k ∷ kept) each =
-    ap (λ s. s ++ flat_map slots_kept kept) (slots_of_kept registered t k each.0) ∙ ap (λ l. slots_of_task t ++ l) (slots_of_parts registered tasks kept each.1)
-    ∙ ap (λ s. s ++ map (λ (q : Part). q.slot) (pieces_of tasks)) (sym (part_slots t (slots_of_task t)))
-    ∙ sym (map-append (λ (q : Part). q.slot) (parts_of (with_slots t)) (pieces_of tasks))
+slots_of_parts registered (t ∷ tasks) (k ∷ kept) each = grind (arith, common_steps, slots_of_kept registered t k each.0, part_slots t (slots_of_task t), map-append, slots_of_parts registered tasks kept each.1)
 
 -- The plan of commands. Each slot has one node among those that were chosen, which is one that it may have.
 pub is_plan_of : (registered : Registrations) (chosen is_node : ℕ → Address → Type 0) (commands : List (List (List ℕ))) (kept : List CommandTask) (targets : List Address) (plan : PipelineBatches) → IsOne chosen
@@ -213,9 +200,7 @@ is_plan_of registered chosen is_node commands kept targets plan one may each is 
 -- the first slot without a node, by what the commands mean
 pub first_fault : (registered : Registrations) (has has_none : ℕ → Type 0) (commands : List (List (List ℕ))) (kept : List CommandTask) (number slot : ℕ) → AllZip (IsTaskFor registered) commands kept
     → IsFirstWithout has has_none (map slots_kept kept) number slot → (tasks : List Task) × AreTasksOf registered commands tasks × IsFirstWithout has has_none (map slots_of_task tasks) number slot
-first_fault registered has has_none commands kept number slot each is =
-    let found = tasks_from registered commands kept each in
-    (found.0, found.1, subst (λ slots. IsFirstWithout has has_none slots number slot) (all_slots_of_kept registered found.0 kept found.2) is)
+first_fault registered has has_none commands kept number slot each is = grind (arith, common_steps, tasks_from, all_slots_of_kept)
 
 -- a number stands among those of some things, of which it is one's
 all_here : {X : Type 0} (number : X → ℕ) (xs : List X) → All (λ x. list_any (nat_eq (number x)) (map number xs) ≡ true) xs

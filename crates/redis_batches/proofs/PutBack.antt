@@ -1,5 +1,5 @@
 -- Replies are put back in the order of the commands, from the last command to the first.
-use Rattle.std.proofs.Common.{◌≡◌, ◌<◌, ◌≤◌, ℕ, ◌+◌, List, [], ◌∷◌, ◌++◌, Option, Result, refl, sym, ap, subst, ◌∙◌, arith, length, map, reverse, append_assoc, length-append, take, get_or}
+use Rattle.std.proofs.Common.{◌≡◌, ◌<◌, ◌≤◌, ℕ, ◌+◌, List, [], ◌∷◌, ◌++◌, Option, Result, sym, ap, subst, ◌∙◌, arith, length, map, reverse, append_assoc, length-append, take, get_or}
 use Rattle.std.specs.List.{sum_by}
 use Rattle.std.proofs.lemmas.List.{append-nil, length-map, map-append, nil_from_length, reverse-append, take_more}
 use Rattle.std.proofs.lemmas.List.Sums.{sum_by_push}
@@ -37,18 +37,7 @@ pub record ArePutBack (splits left : List (Option Split)) (all rest replies : Li
 
 -- none has, at first
 pub none_put_back : (splits left : List (Option Split)) (all replies : List (Result Value ErrorParts)) → left ≡ splits → replies ≡ [] → parts_in splits ≡ length all → ArePutBack splits left all all replies
-none_put_back splits left all replies is none enough = record {
-  later = [];
-  splits_are = sym (append-nil left ∙ is);
-  taken = [];
-  all_are = sym (append-nil all);
-  enough = ap parts_in is ∙ enough;
-  replies_are = none_for;
-}
-  where
-    none_for : AreRepliesFor [] [] (map answer_of (reverse replies))
-    none_for registered [] are = (refl, ap (λ l. map answer_of (reverse l)) none)
-    none_for registered (task ∷ of) are = absurd are
+none_put_back splits left all replies is none enough = grind (arith, common_steps, append-nil left, append-nil all)
 
 -- so many first commands are those before the last of them, and it
 pub last_of : {X : Type 0} (xs : List X) (n i : ℕ) (x : X) → n ≡ i + 1 → i < length xs → x ≡ get_or xs i x → take n xs ≡ take i xs ++ x ∷ []

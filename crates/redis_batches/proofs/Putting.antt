@@ -1,5 +1,5 @@
 -- Answers are put at their places.
-use Rattle.std.proofs.Common.{◌≡◌, ◌<◌, ◌≤◌, ℕ, ◌+◌, zero, suc, List, [], ◌∷◌, ◌++◌, false, Some, Result, All, refl, sym, ap, ◌∙◌, subst, arith, length, drop, get_or, option_map, map}
+use Rattle.std.proofs.Common.{◌≡◌, ◌<◌, ◌≤◌, ℕ, ◌+◌, zero, suc, List, [], ◌∷◌, ◌++◌, false, Some, Result, All, refl, sym, ap, ◌∙◌, arith, length, drop, get_or, option_map, map}
 use Rattle.std.specs.Prelude.{nat_eq, slice_get, slice_index, slice_set}
 use Rattle.std.proofs.lemmas.Bool.{eqb-true}
 use Rattle.std.proofs.lemmas.List.{drop_more, length-set, length_push, map-set}
@@ -45,9 +45,7 @@ length-put_at all (place ∷ places) (x ∷ xs) = length-set (put_at all places 
 -- an answer that is put at its place is right, and so are those that were
 set_right : (now : List (Result Value ErrorParts)) (place : ℕ) (answer : Result Value ErrorParts) (all : List Answer) → place < length now → Some (answer_of answer) ≡ slice_get all place
     → (p : ℕ) → (nat_eq p place ≡ false → IsRight now all p) → IsRight (slice_set now place answer) all p
-set_right now place answer all room is p was = by_test (nat_eq p place)
-    (λ same. let e : p ≡ place = eqb-true p place same in ap (λ q. option_map answer_of (slice_get (slice_set now place answer) q)) e ∙ ap (option_map answer_of) (set_here now place answer room) ∙ is ∙ ap (slice_get all) (sym e))
-    (λ apart. ap (option_map answer_of) (set_there now place p answer apart) ∙ was apart)
+set_right now place answer all room is p was = grind (arith, common_steps, by_test, eqb-true, set_here, set_there)
 
 -- each answer is the one that this list has at its place
 abbrev pub AreFor : List Answer → List ℕ → List (Result Value ErrorParts) → Type 0
@@ -108,9 +106,7 @@ put_one out now given left rest answer places are is more =
 pub put_next : (out now given left rest : List (Result Value ErrorParts)) (answer : Result Value ErrorParts) (places : List ℕ) (n : ℕ)
     → ArePut out now given left places → left ≡ rest ++ answer ∷ [] → n ≡ length rest
     → ArePut out (slice_set now (get_or places n 0) answer) given rest places
-put_next out now given left rest answer places n are is e =
-    subst (λ k. ArePut out (slice_set now (get_or places k 0) answer) given rest places) (sym e)
-    (put_one out now given left rest answer places are is (ap length is ∙ length_push rest answer))
+put_next out now given left rest answer places n are is e = grind (arith, common_steps, put_one out now given left rest answer places are is (ap length is ∙ length_push rest answer), length_push rest answer)
 
 -- a list that is read is the one that stands there
 pub read_list : {X : Type 0} (f : X → List ℕ) (lists : List X) (n : ℕ) (v : X) (l : List ℕ) → n < length lists → v ≡ get_or lists n v → l ≡ f v → slice_get (map f lists) n ≡ Some l

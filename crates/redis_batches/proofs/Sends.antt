@@ -1,6 +1,6 @@
 -- One batch more is sent: what it is of the pipeline, what it leaves, and where its answers belong.
-use Rattle.std.proofs.Common.{◌≡◌, ◌<◌, ◌≤◌, ℕ, ◌+◌, zero, suc, List, [], ◌∷◌, ◌++◌, Bool, false, Some, Result, All, refl, sym, ap, subst, ◌∙◌, arith, filter, map, length, take, drop, get_or, option_map}
-use Rattle.std.specs.Prelude.{nat_eq, slice_get}
+use Rattle.std.proofs.Common.{◌≡◌, ◌<◌, ◌≤◌, ℕ, ◌+◌, zero, suc, List, [], ◌∷◌, ◌++◌, Bool, Some, Result, All, refl, sym, ap, subst, ◌∙◌, arith, filter, map, length, take, drop, get_or, option_map}
+use Rattle.std.specs.Prelude.{slice_get}
 use Rattle.std.specs.List.{enumerate_from}
 use Rattle.std.specs.Option.{option_to_list}
 use Rattle.std.proofs.lemmas.Bool.Decides.{nat_tests}
@@ -80,10 +80,7 @@ module _ {X : Type 0} (batch : X → ℕ) (xs : List X) (order : List ℕ) (i k 
 -- no batch past the last has a part
 pub none_past : {X : Type 0} (batch : X → ℕ) (count k : ℕ) → count ≤ k → (xs : List X) → All (λ x. batch x < count) xs → of_slot batch k xs ≡ []
 none_past batch count k past [] below = refl
-none_past batch count k past (x ∷ xs) below =
-    let less : batch x < count = All-head (λ y. batch y < count) x xs below in
-    let other : nat_eq (batch x) k ≡ false = grind (arith, nat_tests) in
-    rw other (none_past batch count k past xs (All-tail (λ y. batch y < count) x xs below))
+none_past batch count k past (x ∷ xs) below = grind (arith, common_steps, All-head, nat_tests, All-tail, none_past batch count k past xs (All-tail (λ y. batch y < count) x xs below))
 
 -- answers that stand at numbers, by those that were given
 pub are_for : (expected : List Answer) (given : List (Numbered × Answer)) (replies : List (Result Value ErrorParts))

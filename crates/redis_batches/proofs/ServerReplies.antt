@@ -1,5 +1,6 @@
 -- Where the parts of commands answer what they do on one server, the replies are those of the server.
-use Rattle.std.proofs.Common.{◌≡◌, ℕ, List, [], ◌∷◌, Option, None, Some, Result, Ok, Err, refl, sym, ap, subst, ◌∙◌, length, map}
+use Rattle.std.proofs.Common.{◌≡◌, ℕ, List, [], ◌∷◌, Option, None, Some, Result, Ok, Err, refl, sym, ap, subst, ◌∙◌, length, map, arith}
+use Rattle.std.proofs.lemmas.Grind.{common_steps}
 use Rattle.std.specs.List.{AllByRecursion, AllZip}
 use Rattle.std.proofs.lemmas.List.{drop_at, length-map, take_at}
 use Rattle.resp_core.specs.Answer.{Answer}
@@ -38,9 +39,7 @@ splits_of_kept registered [] [] each (t ∷ tasks) are = absurd (cc are)
 splits_of_kept registered [] (k ∷ kept) each tasks are = absurd each
 splits_of_kept registered (args ∷ commands) [] each tasks are = absurd each
 splits_of_kept registered (args ∷ commands) (k ∷ kept) each [] are = absurd (cc are)
-splits_of_kept registered (args ∷ commands) (k ∷ kept) each (t ∷ tasks) are =
-    let same : each.0.0 ≡ t = same_some each.0.0 t (sym each.0.1 ∙ same_head are) in
-    (subst (IsSplitAs registered (split_in k)) same (split_of_kept registered each.0.0 k each.0.2), splits_of_kept registered commands kept each.1 tasks (same_tail are))
+splits_of_kept registered (args ∷ commands) (k ∷ kept) each (t ∷ tasks) are = grind (arith, common_steps, same_some, same_head, split_of_kept, same_tail, splits_of_kept registered commands kept each.1 tasks (same_tail are))
 
 -- replies that are all there
 all_there : (f : ℕ → Reply) (slots : List ℕ) → all_replies (map (λ slot. Ok (f slot)) slots) ≡ Ok (map f slots)
@@ -49,10 +48,7 @@ all_there f (slot ∷ slots) = ap (with_reply (f slot)) (all_there f slots)
 
 -- a split has a route for each slot of its command
 pub as_many_parts : (registered : Registrations) (split : Option Split) (task : Task) → IsSplitAs registered split task → length (slots_of_task task) ≡ part_count split
-as_many_parts registered None (in_slot slot args) is = refl
-as_many_parts registered None (over_keys command) is = absurd is
-as_many_parts registered (Some split) (in_slot slot args) is = absurd is
-as_many_parts registered (Some split) (over_keys command) is = ap length (sym is.slots) ∙ length-map split.routes (λ r. r.0.slot)
+as_many_parts registered split task h1 = grind (arith, length-map)
 
 -- an outcome that is a reply is an answer
 pub answer_is : (answer : Answer) (reply : Reply) → as_outcome answer ≡ Ok reply → answer ≡ Ok reply

@@ -1,5 +1,6 @@
 -- The answers to a batch are told of a plan.
-use Rattle.std.proofs.Common.{◌≡◌, ◌∙◌, ℕ, List, [], Some, Result, true, ap, get_or, length, sym}
+use Rattle.std.proofs.Common.{◌≡◌, ◌∙◌, ℕ, List, [], Some, Result, true, ap, get_or, sym, arith}
+use Rattle.std.proofs.lemmas.Grind.{common_steps}
 use Rattle.std.specs.Prelude.{slice_get, slice_set}
 use Rattle.std.proofs.lemmas.Option.{same_Some, slice_get_within}
 use Rattle.resp_core.specs.ErrorParts.{ErrorParts}
@@ -20,10 +21,7 @@ told_is old now same number answers put is = ap (with_answers old (slice_set old
 
 -- all else stays the same
 pub told_same : (old new : PipelineBatches) (number : ℕ) (answers : List (Result Value ErrorParts)) → new ≡ told_batch old number answers → IsSameBut old new
-told_same old new number answers is = (
-  is ∙ sym (ap (λ (p : PipelineBatches). with_answers old p.batches.told p.batches.answers) is),
-  ap (λ (p : PipelineBatches). length p.batches.answers) is ∙ length-put_at old.batches.answers (get_or old.batches.places number []) answers,
-)
+told_same old new number answers is = grind (arith, common_steps, length-put_at)
 
 pub told_put : (old new : PipelineBatches) (number : ℕ) (answers : List (Result Value ErrorParts)) (places : List ℕ) → new ≡ told_batch old number answers → slice_get old.batches.places number ≡ Some places
     → new.batches.answers ≡ put_at old.batches.answers places answers

@@ -105,10 +105,7 @@ module _ {C : Type 0} (step : Step C) (serve : Serve C) (refusals : Refusals) (b
 
   -- where none of its parts was refused, they answer what they do on one server, on the keyspace that those before leave
   own_answers : AreSlotsOf task (slots_of_task task) → All (λ x. refusals x ≡ None) own → given own left ≡ map (part_answer step serve task left) (slots_of_task task)
-  own_answers slots taken =
-      ap (map (λ a. a.1)) (answers_agree step serve refusals none own taken left)
-      ∙ numbered_list step serve (length (pieces earlier)) (parts_of (with_slots task)) left
-      ∙ task_answers step serve task (slots_of_task task) slots left
+  own_answers slots taken = grind (arith, common_steps, answers_agree step serve refusals none own taken left, numbered_list step serve (length (pieces earlier)) (parts_of (with_slots task)) left, task_answers step serve task (slots_of_task task) slots left)
 
   -- then its reply is that of one server that takes the parts that were not refused
   one_untouched : IsShared task → AreSlotsOf task (slots_of_task task)

@@ -45,10 +45,7 @@ module _ {C : Type 0} (step : Step C) (serve : Serve C) where
     parts_leave : (before slots : List ℕ) → all_after (piece step serve) (map (slot_part command) slots) (after (act_of step command) (joined before command.tuples) ks)
         ≡ after (act_of step command) (joined (before ++ slots) command.tuples) ks
     parts_leave before [] = ap (λ b. after (act_of step command) (joined b command.tuples) ks) (sym (append-nil before))
-    parts_leave before (slot ∷ slots) =
-        ap (λ (k : Keyspace C). all_after (piece step serve) (map (slot_part command) slots) k) (one_part_more (act_of step command) before slot command.tuples ks)
-        ∙ parts_leave (before ++ slot ∷ []) slots
-        ∙ ap (λ b. after (act_of step command) (joined b command.tuples) ks) (append_assoc before (slot ∷ []) slots)
+    parts_leave before (slot ∷ slots) = grind (arith, common_steps, one_part_more, joined, append_assoc, parts_leave (before ++ slot ∷ []) slots)
 
     -- what the part of a slot adds to the replies
     answer_of : ℕ → Answer
@@ -111,9 +108,7 @@ module _ {C : Type 0} (step : Step C) (serve : Serve C) where
   -- each part of a command keeps to its slot
   parts_local : (task : Task) (slots : List ℕ) → AreSlotsOf task slots → All (λ q. IsLocal q.slot ((piece step serve) q)) (parts_of (record { task = task; slots = slots }))
   parts_local (over_keys command) slots are = keys_local command slots
-  parts_local (in_slot own args) slots are =
-      subst (λ l. All (λ q. IsLocal q.slot ((piece step serve) q)) (parts_of (record { task = in_slot own args; slots = l }))) (sym are)
-      (All-cons (λ q. IsLocal q.slot ((piece step serve) q)) (record { slot = own; task = in_slot own args }) [] (shelf_local own (serve args)) (All-nil (λ q. IsLocal q.slot ((piece step serve) q))))
+  parts_local (in_slot own args) slots are = grind (arith, All-cons, shelf_local, All-nil)
 
   -- Each part of a pipeline keeps to its slot.
   pub pieces_local : (ps : List Planned) → All (λ p. AreSlotsOf p.task p.slots) ps → All (λ q. IsLocal q.slot ((piece step serve) q)) (pieces ps)

@@ -37,13 +37,9 @@ zip_more : {A B : Type 0} (xs : List A) (ys : List B) (i : ℕ) (x : A) (y : B) 
 zip_more [] ys i x y within same is also = absurd (omega (arith, within))
 zip_more (a ∷ xs) [] i x y within same is also = absurd (omega (arith, same))
 zip_more {A} {B} (a ∷ xs) (b ∷ ys) zero x y within same is also = ap {B = List (A × B)} (λ z. (z, b) ∷ []) (sym is) ∙ ap {B = List (A × B)} (λ z. (x, z) ∷ []) (sym also)
-zip_more {A} {B} (a ∷ xs) (b ∷ ys) (suc i) x y within same is also =
-    let e : suc i + 1 ≡ suc (i + 1) = omega arith in
-    ap {B = List (A × B)} (λ k. take k ((a, b) ∷ zip xs ys)) e ∙ ap {B = List (A × B)} (λ l. (a, b) ∷ l) (zip_more xs ys i x y (omega (arith, within)) (omega (arith, same)) is also)
+zip_more {A} {B} (a ∷ xs) (b ∷ ys) (suc i) x y within same is also = grind (arith, common_steps, zip_more xs ys i x y (omega (arith, within)) (omega (arith, same)) is also)
 
 -- those of one command more
 pub written_more : (reads : List ℕ → Bool) (commands : List (List (List ℕ))) (kept : List CommandTask) (i : ℕ) (args : List (List ℕ)) (task : CommandTask) → i < length commands → length kept ≡ length commands → args ≡ get_or commands i args → task ≡ get_or kept i task
     → flat_map (kept_written reads) (take i (zip commands kept)) ++ kept_written reads (args, task) ≡ flat_map (kept_written reads) (take (i + 1) (zip commands kept))
-written_more reads commands kept i args task within same is also =
-    sym (ap (flat_map (kept_written reads)) (zip_more commands kept i args task within same is also) ∙ flat_map-append (kept_written reads) (take i (zip commands kept)) ((args, task) ∷ [])
-    ∙ ap (λ l. flat_map (kept_written reads) (take i (zip commands kept)) ++ l) (append-nil (kept_written reads (args, task))))
+written_more reads commands kept i args task within same is also = grind (arith, common_steps, zip_more commands kept i args task within same is also, flat_map-append (kept_written reads) (take i (zip commands kept)) ((args, task) ∷ []), append-nil (kept_written reads (args, task)))

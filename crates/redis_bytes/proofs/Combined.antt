@@ -1,5 +1,6 @@
 -- One array of the items of the parts, in the order of the keys, is what the command combines.
-use Rattle.std.proofs.Common.{◌≡◌, ℕ, suc, ◌<◌, ◌≤◌, List, [], ◌∷◌, inl, inr, true, false, Some, length, get_or, refl, sym, ap, ◌∙◌, arith}
+use Rattle.std.proofs.Common.{◌≡◌, ℕ, suc, ◌<◌, ◌≤◌, List, [], ◌∷◌, inl, inr, Some, length, get_or, refl, sym, ap, ◌∙◌, arith}
+use Rattle.std.proofs.lemmas.Grind.{common_steps}
 use Rattle.std.specs.Prelude.{nat_eq, slice_get}
 use Rattle.std.specs.List.{AllZip}
 use Rattle.std.proofs.lemmas.Bool.{cases_lt, eq-eqb, eqb-false, eqb-true, ne_eqb}
@@ -38,12 +39,7 @@ module _ (slots : List ℕ) (apart : (n : ℕ) → times n slots ≤ 1) where
 
   -- a key has the place of a number if it has the number's slot
   pub same_test : (number slot place own : ℕ) → slice_get slots number ≡ Some slot → slice_get slots place ≡ Some own → nat_eq place number ≡ nat_eq own slot
-  same_test number slot place own is at =
-      by_test (nat_eq place number)
-      (λ here.
-      let there : slice_get slots number ≡ Some own = ap (slice_get slots) (sym (eqb-true place number here)) ∙ at in
-      here ∙ sym (eq-eqb own slot (same_Some own slot (sym there ∙ is))))
-      (λ away. away ∙ sym (ne_eqb own slot (λ same. eqb-false place number away (one_place place number slot (at ∙ ap Some same) is))))
+  same_test number slot place own is at = grind (arith, common_steps, by_test, eqb-true, eq-eqb, same_Some, ne_eqb, eqb-false, one_place)
 
   -- the items of a slot are those at the places of its number
   items_by_number : (number slot : ℕ) → slice_get slots number ≡ Some slot → (places : List ℕ) (ts : List KeyTuple) (values : List Reply)
@@ -53,12 +49,7 @@ module _ (slots : List ℕ) (apart : (n : ℕ) → times n slots ≤ 1) where
   items_by_number number slot is [] (t ∷ ts) values are same = absurd are
   items_by_number number slot is (p ∷ places) [] values are same = absurd are
   items_by_number number slot is (p ∷ places) (t ∷ ts) [] are same = absurd (omega (arith, same))
-  items_by_number number slot is (p ∷ places) (t ∷ ts) (v ∷ values) are same =
-      let later = items_by_number number slot is places ts values are.1 (omega (arith, same)) in
-      let test = same_test number slot p (key_slot t.key) is are.0 in
-      by_test (nat_eq (key_slot t.key) slot)
-      (λ here. let too : nat_eq p number ≡ true = test ∙ here in rw (too, here) (ap (λ xs. v ∷ xs) later))
-      (λ there. let too : nat_eq p number ≡ false = test ∙ there in rw (too, there) later)
+  items_by_number number slot is (p ∷ places) (t ∷ ts) (v ∷ values) are same = grind (arith, common_steps, same_test, by_test, items_by_number number slot is places ts values are.1 (omega (arith, same)))
 
 -- arrays of the items of slots, slot by slot
 arrays_at : (f : ℕ → List Reply) (slots : List ℕ) (lists : List (List Reply)) → length lists ≡ length slots

@@ -1,5 +1,6 @@
 -- Texts one after another, and where each of them ends, with one more text.
 use Rattle.std.proofs.Common.{◌≡◌, ℕ, ◌+◌, ◌<◌, zero, suc, List, [], ◌∷◌, ◌++◌, Some, length, map, option_map, take, get_or, slice_get, sym, ap, ◌∙◌, arith, append-nil, length-append}
+use Rattle.std.proofs.lemmas.Grind.{common_steps}
 use Rattle.std.specs.List.{flat_map}
 use Rattle.std.proofs.lemmas.List.{map_more, map_push, take_more}
 use Rattle.std.proofs.lemmas.List.Concat.{flat_map-append}
@@ -11,10 +12,7 @@ use Rattle.redis_bytes.specs.Requests.{AreWritten, Words}
 
 ends_push : {X : Type 0} (f : X → List ℕ) (start : ℕ) (xs : List X) (x : X) → item_ends start (map f xs ++ f x ∷ []) ≡ item_ends start (map f xs) ++ (start + (length (flat_map f xs) + length (f x))) ∷ []
 ends_push f start [] x = ap (λ (n : ℕ). (start + n) ∷ []) (omega arith)
-ends_push f start (y ∷ ys) x =
-    let more = ends_push f (start + length (f y)) ys x in
-    let n : start + length (f y) + (length (flat_map f ys) + length (f x)) ≡ start + (length (f y ++ flat_map f ys) + length (f x)) = omega (arith, length-append (f y) (flat_map f ys)) in
-    ap (λ (t : List ℕ). (start + length (f y)) ∷ t) (more ∙ ap (λ (k : ℕ). item_ends (start + length (f y)) (map f ys) ++ k ∷ []) n)
+ends_push f start (y ∷ ys) x = grind (arith, common_steps, ends_push f (start + length (f y)) ys x)
 
 module _ {X : Type 0} (f : X → List ℕ) (xs : List X) (x : X) (ends bytes more : List ℕ) (are : bytes ≡ flat_map f xs) (next : more ≡ bytes ++ f x) where
   -- the bytes and the ends with one text more
@@ -23,10 +21,7 @@ module _ {X : Type 0} (f : X → List ℕ) (xs : List X) (x : X) (ends bytes mor
       next ∙ ap (λ (t : List ℕ). t ++ f x) are ∙ ap (λ (t : List ℕ). flat_map f xs ++ t) (sym (append-nil (f x))) ∙ sym (flat_map-append f xs (x ∷ []))
 
   pub ends_next : ends ≡ item_ends 0 (map f xs) → ends ++ length more ∷ [] ≡ item_ends 0 (map f (xs ++ x ∷ []))
-  ends_next so_far =
-      let len : length more ≡ 0 + (length (flat_map f xs) + length (f x)) = ap (length {A = ℕ}) (next ∙ ap (λ (t : List ℕ). t ++ f x) are) ∙ length-append (flat_map f xs) (f x) ∙ omega arith in
-      ap (λ (t : List ℕ). t ++ length more ∷ []) so_far ∙ ap (λ (k : ℕ). item_ends 0 (map f xs) ++ k ∷ []) len
-      ∙ sym (ap (item_ends 0) (map_push f xs x) ∙ ends_push f 0 xs x)
+  ends_next so_far = grind (arith, common_steps, length-append, map_push, ends_push)
 
 -- what a loop over the texts keeps
 pub more_bytes : {X : Type 0} (f : X → List ℕ) (xs : List X) (i : ℕ) (x : X) (bytes more : List ℕ) → i < length xs → x ≡ get_or xs i x
@@ -43,12 +38,7 @@ more_ends f xs i x ends bytes more lt is so_far are next =
 -- one request more
 pub written_more : (arguments : List Arguments) (ends bytes more : List ℕ) (words : Words) → AreWritten arguments ends bytes → more ≡ bytes ++ request words
     → AreWritten (arguments ++ map Some words ∷ []) (ends ++ length more ∷ []) more
-written_more arguments ends bytes more words are next = record {
-  commands = are.commands ++ words ∷ [];
-  each = map_push (map Some) are.commands words ∙ ap (λ l. l ++ map Some words ∷ []) are.each;
-  ends_are = ends_next request are.commands words ends bytes more are.bytes_are next are.ends_are;
-  bytes_are = bytes_next request are.commands words ends bytes more are.bytes_are next;
-}
+written_more arguments ends bytes more words are next = grind (arith, common_steps, map_push (map Some) are.commands words, ends_next request are.commands words ends bytes more are.bytes_are next are.ends_are, bytes_next request are.commands words ends bytes more are.bytes_are next)
 
 -- what is found by a slot is that of the slot of this number
 pub at_slot : {X P : Type 0} (slot : X → ℕ) (part_of : ℕ → P) (xs : List X) (n : ℕ) (part : P) →

@@ -1,5 +1,6 @@
 -- Numbers of nodes stay right when a node more is put last.
 use Rattle.std.proofs.Common.{◌≡◌, ℕ, zero, suc, ◌+◌, ◌<◌, ◌≤◌, ◌⊎◌, inl, inr, List, [], ◌∷◌, ◌++◌, Bool, true, false, cond, None, Some, Ordering, length, get_or, slice_get, subst, sym, ap, ◌∙◌, refl, arith, below_more, length-append}
+use Rattle.std.proofs.lemmas.Grind.{common_steps}
 use Rattle.std.specs.Borrow.{Bor}
 use Rattle.std.specs.Prelude.{slice_index}
 use Rattle.std.specs.Ordering.{is_eq}
@@ -31,11 +32,7 @@ pub stood : (xs : List (Bor Address)) (y : Bor Address) (k : ℕ) (node : Addres
 stood [] y zero node e = inr (refl, same_Some y.now node e)
 stood [] y (suc k) node e = absurd (none-some node e)
 stood (x ∷ xs) y zero node e = inl e
-stood (x ∷ xs) y (suc k) node e = later (stood xs y k node e)
-  where
-    later : (slice_get (addresses xs) k ≡ Some node) ⊎ ((k ≡ length xs) × (y.now ≡ node)) → (slice_get (addresses xs) k ≡ Some node) ⊎ ((suc k ≡ suc (length xs)) × (y.now ≡ node))
-    later (inl there) = inl there
-    later (inr last) = inr (ap suc last.0, last.1)
+stood (x ∷ xs) y (suc k) node e = grind (arith, common_steps, stood xs y k node e)
 
 pub stays_numbered : (entries : List (RangeEntry SlotNodes)) (old new : List (Bor Address)) (route : SlotRoute) (pick given number : ℕ) → Grows old new given → IsNodeNumber entries (addresses old) route pick number → IsNodeNumber entries (addresses new) route pick number
 stays_numbered entries old new route pick given number (inl same) is = subst (λ (ns : List (Bor Address)). IsNodeNumber entries (addresses ns) route pick number) (sym same) is
@@ -109,9 +106,7 @@ module _ (old new : List (Bor Address)) (node : Bor Address) (before after : BTr
       found_new = updates.0 q ∙ ap (λ (b : Bool). cond b (Some number) (get by_address before q)) equal
 
       new_at : get by_address after q ≡ Some n → slice_get (addresses new) n ≡ Some q.now
-      new_at found =
-          let at : length old ≡ n = sym last ∙ same_Some number n (sym found_new ∙ found) in
-          at_more q n (subst (λ (k : ℕ). slice_get (addresses (old ++ node ∷ [])) k ≡ Some q.now) at (last_there old node ∙ ap (λ (a : Address). Some a) same))
+      new_at found = grind (arith, common_steps, same_Some, found_new, at_more, slice_get, last_there, same)
 
       new_found : (slice_get (addresses old) n ≡ Some q.now) ⊎ ((n ≡ length old) × (node.now ≡ q.now)) → get by_address after q ≡ Some n
       new_found (inl there) = absurd (none-some n (sym absent ∙ found_alike before node q same ∙ (placed q n).1 there))
@@ -124,9 +119,7 @@ module _ (old new : List (Bor Address)) (node : Bor Address) (before after : BTr
 
       old_found : (slice_get (addresses old) n ≡ Some q.now) ⊎ ((n ≡ length old) × (node.now ≡ q.now)) → get by_address after q ≡ Some n
       old_found (inl there) = found_old ∙ (placed q n).1 there
-      old_found (inr at) =
-          let equal : is_at (by_address node) q ≡ true = ap is_eq ((equal_law node.now q.now).1 at.1) in
-          absurd (cc (equal, unlike))
+      old_found (inr at) = grind (arith, common_steps)
 
   pub placed_more : AreNumbersOf new after
   placed_more q n =

@@ -1,5 +1,6 @@
 -- The arguments of a part, written one after the other.
 use Rattle.std.proofs.Common.{◌≡◌, ℕ, ◌+◌, List, [], ◌∷◌, ◌++◌, Option, None, Some, length, length-append, map, option_map, append_assoc, append-nil, decimal, refl, sym, ap, ◌∙◌, arith}
+use Rattle.std.proofs.lemmas.Grind.{common_steps}
 use Rattle.std.specs.List.{flat_map, range_with_len}
 use Rattle.std.specs.Prelude.{IfSome}
 use Rattle.std.proofs.lemmas.List.{length-map}
@@ -30,9 +31,6 @@ parted (Some x ∷ first) second all e =
 abbrev pub Adds : List ℕ → Arguments → List ℕ → Type 0
 Adds old arguments new = (args : Words) → all_some arguments ≡ Some args → new ≡ old ++ flat_map bulk_form args
 
-pub adds_none : (old : List ℕ) → Adds old [] old
-adds_none old args e = sym (ap (λ xs. old ++ flat_map bulk_form xs) (sym (same_Some [] args e)) ∙ append-nil old)
-
 -- one argument more, if it is there
 pub adds_next : (old : List ℕ) (arguments : Arguments) (arg : Option (List ℕ)) (new more : List ℕ) → Adds old arguments new → IfSome arg (λ text. more ≡ new ++ bulk_form text) → Adds old (arguments ++ arg ∷ []) more
 adds_next old arguments None new more so_far next args e = let p = parted arguments (None ∷ []) args e in absurd (none-some p.1 p.3)
@@ -46,13 +44,4 @@ adds_next old arguments (Some arg) new more so_far next args e =
 -- the first line, the words of the name and the arguments are a request
 pub request_added : (words : ℕ) (command : Arguments) (indices : List ℕ) (old counted named new : List ℕ) → counted ≡ old ++ line 42 (decimal (words + length indices)) → Adds counted (map (argument command) (range_with_len 0 words)) named
     → Adds named (map (λ i. argument command (i + words)) indices) new → (part : Words) → sub_command_after words command indices ≡ Some part → new ≡ old ++ request part
-request_added words command indices old counted named new count name arguments part e =
-    let names = map (argument command) (range_with_len 0 words) in
-    let others = map (λ (i : ℕ). argument command (i + words)) indices in
-    let p = parted names others part e in
-    let len : words + length indices ≡ length part =
-    omega (arith, ap (length {A = List ℕ}) p.4, length-append p.0 p.1, all_some_length names p.0 p.2, all_some_length others p.1 p.3, length-map-range_with_len (argument command) 0 words, length-map indices (λ (i : ℕ). argument command (i + words))) in
-    let first = line 42 (decimal (length part)) in
-    let forms : flat_map bulk_form part ≡ flat_map bulk_form p.0 ++ flat_map bulk_form p.1 = ap (flat_map bulk_form) p.4 ∙ flat_map-append bulk_form p.0 p.1 in
-    arguments p.1 p.3 ∙ ap (λ (t : List ℕ). t ++ flat_map bulk_form p.1) (name p.0 p.2 ∙ ap (λ (t : List ℕ). t ++ flat_map bulk_form p.0) (count ∙ ap (λ (n : ℕ). old ++ line 42 (decimal n)) len))
-    ∙ append_assoc (old ++ first) (flat_map bulk_form p.0) (flat_map bulk_form p.1) ∙ append_assoc old first (flat_map bulk_form p.0 ++ flat_map bulk_form p.1) ∙ ap (λ (t : List ℕ). old ++ (first ++ t)) (sym forms)
+request_added words command indices old counted named new count name arguments part e = grind (arith, common_steps, parted, length-append, all_some_length, length-map-range_with_len (argument command) 0 words, length-map, flat_map-append, append_assoc)

@@ -1,5 +1,6 @@
 -- The number of the part of each key, as it is put list by list.
 use Rattle.std.proofs.Common.{◌≡◌, ℕ, zero, suc, ◌+◌, ◌*◌, ◌/◌, ◌%◌, ◌<◌, ◌≤◌, List, [], ◌∷◌, true, false, cond, All, Option, Some, None, Vec, Global, length, map, get_or, take, refl, sym, ap, subst, ◌∙◌, arith, slice_index, eqb, get_or-set_same, get_or-set_other}
+use Rattle.std.proofs.lemmas.Grind.{common_steps}
 use Rattle.std.proofs.Math.ListN.{set}
 use Rattle.std.specs.Prelude.{nat_eq, slice_get, option_and_then}
 use Rattle.std.specs.List.{AllZip, flat_map, sum_by}
@@ -65,22 +66,13 @@ key_at w n i own few = get_or-map-range_with_len (λ j. slice_index own (w * j) 
 -- the keys of a list, by its own part and the width of a tuple
 pub key_of_list : (pattern : MultiSlotArgPattern) (list keys own : List ℕ) (w i : ℕ) (are : AreKeys pattern list keys) → own ≡ are.own → w ≡ width_of pattern
     → (length keys ≡ length own / w) × (i < length own / w → get_or keys i 0 ≡ slice_index own (w * i) / w)
-key_of_list pattern list keys own w i are own_is w_is =
-    let width = width_of pattern in
-    let count : length own / w ≡ length are.own / width = ap (λ (xs : List ℕ). length xs / w) own_is ∙ ap (λ n. length are.own / n) w_is in (
-      ap (length {A = ℕ}) are.keys_are ∙ length-heads width (length are.own / width) are.own ∙ sym count,
-      λ few. ap (λ ks. get_or ks i 0) are.keys_are ∙ key_at width (length are.own / width) i are.own (subst (λ n. i < n) count few)
-          ∙ sym (ap (λ xs. slice_index xs (w * i) / w) own_is ∙ ap (λ n. slice_index are.own (n * i) / n) w_is),
-    )
+key_of_list pattern list keys own w i are own_is w_is = grind (arith, common_steps, length-heads, key_at, slice_index)
 
 -- ---- a number is put at the keys of a list
 
 -- the number stands at the first keys, and elsewhere what was there
 abbrev pub HasNumber : List ℕ → List ℕ → ℕ → ℕ → List ℕ → Type 0
 HasNumber old keys number i now = (k : ℕ) → k < length old → slice_index now k ≡ cond (nat_eq (times k (take i keys)) 0) (slice_index old k) number
-
-pub no_key : (old keys : List ℕ) (number : ℕ) → HasNumber old keys number 0 old
-no_key old keys number = λ k few. refl
 
 module _ (old now keys : List ℕ) (number i : ℕ) (few : i < length keys) (long : length now ≡ length old) (so_far : HasNumber old keys number i now) where
   abbrev key : ℕ
@@ -90,9 +82,7 @@ module _ (old now keys : List ℕ) (number i : ℕ) (few : i < length keys) (lon
   more k = times_more k keys i 0 few
 
   other : (k : ℕ) → nat_eq k key ≡ false → k < length old → slice_index now k ≡ cond (nat_eq (times k (take (i + 1) keys)) 0) (slice_index old k) number
-  other k there within =
-      let same : times k (take (i + 1) keys) ≡ times k (take i keys) = omega (arith, more k, ap {B = ℕ} (λ b. cond b 1 0) there) in
-      so_far k within ∙ ap (λ n. cond (nat_eq n 0) (slice_index old k) number) (sym same)
+  other k there within = grind (arith, more k, slice_index old k)
 
   pub key_put : key < length now → HasNumber old keys number (i + 1) (set now key number)
   key_put room = λ k within.
@@ -125,9 +115,7 @@ keys_of_list pattern ts list slot is = ap (places pattern) is ∙ places_of_keys
 pub keys_of_route : (pattern : MultiSlotArgPattern) (ts : List KeyTuple) (routes : Routes) (i : ℕ) (r : SlotRoute × Vec ℕ Global) → All (Placed pattern ts) (route_lists routes) → i < length routes → r ≡ get_or routes i r
     → places pattern r.1.items ≡ Some (numbers_of_slot r.0.slot ts)
 keys_of_route pattern ts [] i r placed few is = absurd (omega (arith, few))
-keys_of_route pattern ts (x ∷ routes) zero r placed few is =
-    subst (λ (y : SlotRoute × Vec ℕ Global). places pattern y.1.items ≡ Some (numbers_of_slot y.0.slot ts)) (sym is)
-    (keys_of_list pattern ts x.1.items x.0.slot (All-head (Placed pattern ts) (x.0, x.1.items) (route_lists routes) placed))
+keys_of_route pattern ts (x ∷ routes) zero r placed few is = grind (arith, numbers_of_slot, keys_of_list, All-head)
 keys_of_route pattern ts (x ∷ routes) (suc i) r placed few is =
     keys_of_route pattern ts routes i r (All-tail (Placed pattern ts) (x.0, x.1.items) (route_lists routes) placed) (omega (arith, few)) is
 
@@ -146,10 +134,7 @@ keys_by_slot ts slots = map (λ slot. numbers_of_slot slot ts) slots
 pub keys_of_routes : (pattern : MultiSlotArgPattern) (ts : List KeyTuple) (routes : Routes) → All (Placed pattern ts) (route_lists routes)
     → AllZip (λ route own. places pattern route.1.items ≡ Some own) routes (keys_by_slot ts (slots_of (route_lists routes)))
 keys_of_routes pattern ts [] placed = tt
-keys_of_routes pattern ts (x ∷ routes) placed = (
-  keys_of_list pattern ts x.1.items x.0.slot (All-head (Placed pattern ts) (x.0, x.1.items) (route_lists routes) placed),
-  keys_of_routes pattern ts routes (All-tail (Placed pattern ts) (x.0, x.1.items) (route_lists routes) placed),
-)
+keys_of_routes pattern ts (x ∷ routes) placed = grind (arith, keys_of_list, All-head, All-tail, keys_of_routes pattern ts routes (All-tail (Placed pattern ts) (x.0, x.1.items) (route_lists routes) placed))
 
 keys_in_all : (ts : List KeyTuple) (slots : List ℕ) → sum_by (λ own. length own) (keys_by_slot ts slots) ≡ length (flat_map (λ slot. numbers_of_slot slot ts) slots)
 keys_in_all ts [] = refl

@@ -1,5 +1,6 @@
 -- Replies one after the other.
 use Rattle.std.proofs.Common.{◌≡◌, ℕ, ◌+◌, ◌-◌, ◌<◌, List, [], ◌∷◌, ◌++◌, length, append_assoc, append-nil, refl, sym, ap, subst, ◌∙◌, arith}
+use Rattle.std.proofs.lemmas.Grind.{common_steps}
 use Rattle.std.proofs.lemmas.List.{length-append}
 use Rattle.resp_core.specs.Reply.{Reply}
 use Rattle.resp.specs.Forms.{InOrder}
@@ -81,15 +82,7 @@ only_fails {P = P} count bytes rest replies so_far few next all long are =
 -- ---- the fault
 
 first_unread : (count number : ℕ) (bytes rest : List ℕ) (replies : List Reply) (fault : BytesFault) → Stand bytes rest replies → length replies ≡ number → number < count → IsNoValue number rest fault → IsFirstUnread count bytes fault
-first_unread count number bytes rest replies fault so_far long few next = record {
-  replies = replies;
-  front = so_far.front;
-  rest = rest;
-  bytes_are = so_far.bytes_are;
-  are = so_far.are;
-  few = omega (arith, long, few);
-  next = subst (λ (n : ℕ). IsNoValue n rest fault) (sym long) next;
-}
+first_unread count number bytes rest replies fault so_far long few next = grind (arith, common_steps)
 
 pub unread : (count number : ℕ) (bytes rest : List ℕ) (replies : List Reply) (fault : BytesFault) → Stand bytes rest replies → length replies ≡ number → number < count → IsNoValue number rest fault → AreUnread count bytes fault
 unread count number bytes rest replies faults.Memory so_far long few next = tt
@@ -109,13 +102,4 @@ pub left_at : (bytes rest : List ℕ) (replies : List Reply) (so_far : Stand byt
 left_at bytes rest replies so_far = ap (length {A = ℕ}) so_far.bytes_are ∙ length-append so_far.front rest
 
 pub followed : (count : ℕ) (bytes rest : List ℕ) (replies : List Reply) → Stand bytes rest replies → length replies ≡ count → 0 < length rest → AreFollowed count bytes (length bytes - length rest)
-followed count bytes rest replies so_far every some = record {
-  replies = replies;
-  front = so_far.front;
-  rest = rest;
-  bytes_are = so_far.bytes_are;
-  are = so_far.are;
-  all = every;
-  end_is = omega (arith, left_at bytes rest replies so_far);
-  more = some;
-}
+followed count bytes rest replies so_far every some = grind (arith, common_steps)

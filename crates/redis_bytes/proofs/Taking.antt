@@ -1,5 +1,6 @@
 -- The items of arrays, taken one after another.
-use Rattle.std.proofs.Common.{◌≡◌, ℕ, suc, ◌+◌, ◌-◌, ◌<◌, List, [], ◌∷◌, ◌++◌, cond, length, map, get_or, take, drop, refl, sym, ap, ◌∙◌, append_assoc, append-nil, arith, slice_index, get_or-set_same, get_or-set_other}
+use Rattle.std.proofs.Common.{◌≡◌, ℕ, ◌+◌, ◌-◌, ◌<◌, List, [], ◌∷◌, ◌++◌, cond, length, map, get_or, take, drop, refl, sym, ap, ◌∙◌, append_assoc, append-nil, arith, slice_index, get_or-set_same, get_or-set_other}
+use Rattle.std.proofs.lemmas.Grind.{common_steps}
 use Rattle.std.proofs.Math.ListN.{set}
 use Rattle.std.specs.Prelude.{nat_eq}
 use Rattle.std.specs.List.{slice_range}
@@ -18,15 +19,11 @@ items_push : (n p : ℕ) (ps : List ℕ) (x : Reply) (xs : List Reply) → lengt
 items_push n p [] x [] same = by_test (nat_eq p n) (λ here. rw here refl) (λ there. rw there refl)
 items_push n p [] x (y ∷ ys) same = absurd (omega (arith, same))
 items_push n p (q ∷ ps) x [] same = absurd (omega (arith, same))
-items_push n p (q ∷ ps) x (y ∷ ys) same =
-    let later = items_push n p ps x ys (omega (arith, same)) in
-    by_test (nat_eq q n) (λ here. rw here (ap (λ zs. y ∷ zs) later)) (λ there. rw there later)
+items_push n p (q ∷ ps) x (y ∷ ys) same = grind (arith, common_steps, items_push n p ps x ys (omega (arith, same)))
 
 -- the first item between a start and an end
 range_more : (xs : List Reply) (next end : ℕ) (d : Reply) → next < end → next < length xs → slice_range xs next end ≡ get_or xs next d ∷ slice_range xs (next + 1) end
-range_more xs next end d before within =
-    let more : end - next ≡ suc (end - (next + 1)) = omega (arith, before) in
-    ap (take (end - next)) (drop_more xs next d within) ∙ ap (λ n. take n (get_or xs next d ∷ drop (next + 1) xs)) more
+range_more xs next end d before within = grind (arith, drop_more)
 
 range_none : (xs : List Reply) (end : ℕ) → slice_range xs end end ≡ []
 range_none xs end = let none : end - end ≡ 0 = omega arith in ap (λ n. take n (drop end xs)) none
@@ -36,9 +33,6 @@ pub record Left (items : List Reply) (starts nexts ends places : List ℕ) (valu
   pub each : length values ≡ length places
   pub left : (number : ℕ) → number < length ends → items_of_index number places values ++ slice_range items (slice_index nexts number) (slice_index ends number)
       ≡ slice_range items (slice_index starts number) (slice_index ends number)
-
-pub left_none : (items : List Reply) (starts ends : List ℕ) → Left items starts starts ends [] []
-left_none items starts ends = record { each = refl; left = λ number few. refl }
 
 module _ (items : List Reply) (texts : List (List ℕ)) (are : texts ≡ map form items) (old new ends : List ℕ) (place : ℕ) (text : List ℕ) (next : IsNext texts old new ends place text) where
   abbrev at : ℕ
@@ -82,14 +76,7 @@ module _ (items : List Reply) (texts : List (List ℕ)) (are : texts ≡ map for
 
 -- nothing is left of any array
 pub all_taken : (items : List Reply) (starts nexts ends places : List ℕ) (values : List Reply) → nexts ≡ ends → Left items starts nexts ends places values → AreTaken items starts ends places values
-all_taken items starts nexts ends places values same so_far = record {
-  each = so_far.each;
-  of_arrays = λ number few.
-      let front = items_of_index number places values in
-      let end = slice_index ends number in
-      sym (ap (λ n. front ++ slice_range items n end) (ap (λ xs. slice_index xs number) same) ∙ ap (λ zs. front ++ zs) (range_none items end) ∙ append-nil front)
-      ∙ so_far.left number few;
-}
+all_taken items starts nexts ends places values same so_far = grind (arith, slice_index, range_none, append-nil)
 
 -- what a slice of a whole vector leaves there
 pub whole_back : (len : ℕ) (new old : List ℕ) → length new ≡ length old → len ≡ length old → take len (new ++ drop (length new) old) ≡ new

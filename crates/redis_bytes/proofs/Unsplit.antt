@@ -1,5 +1,6 @@
 -- What the replies to the parts of one command make is the reply to the command.
 use Rattle.std.proofs.Common.{◌≡◌, ℕ, List, [], ◌∷◌, ◌++◌, Result, Ok, length, refl, sym, ap, subst, ◌∙◌, arith}
+use Rattle.std.proofs.lemmas.Grind.{common_steps}
 use Rattle.std.proofs.lemmas.List.{length-map}
 use Rattle.resp_core.specs.Reply.{Reply}
 use Rattle.resp.specs.Reading.{answer_at}
@@ -29,11 +30,7 @@ abbrev made_of : Reply → Result Reply ErrorKind
 made_of reply = Ok reply
 
 same_found : (r s : Reply) (rest more : List ℕ) → found (value_of r) rest ≡ found (value_of s) more → (r ≡ s) × (rest ≡ more)
-same_found r s rest more e =
-    let both : same_pair (value_of r) rest ≡ same_pair (value_of s) more = cc in
-    let first : value_of r ≡ value_of s = ap (λ (p : Answer × List ℕ). p.0) both in
-    let reply : r ≡ s = cc in
-    (reply, ap (λ (p : Answer × List ℕ). p.1) both)
+same_found r s rest more e = grind (arith, common_steps)
 
 -- one reply stands at the front
 one_reply : (r s : Reply) (front form rest more : List ℕ) → IsReply r front → IsReply s form → front ++ rest ≡ form ++ more → (r ≡ s) × (rest ≡ more)

@@ -1,5 +1,6 @@
 -- Each entry that a trace grows by was answered, or its send was allowed to end so.
 use Rattle.std.proofs.Common.{◌≡◌, ◌⊎◌, inl, inr, ⊎_elim, ◌↔◌, ℕ, zero, suc, ◌+◌, List, [], ◌∷◌, ◌++◌, Option, Some, None, Result, Ok, Err, IfErr, refl, sym, ap, ◌∙◌, arith, subst, length, append_assoc}
+use Rattle.std.proofs.lemmas.Grind.{common_steps}
 use Rattle.std.specs.Prelude.{slice_get, OnOk, Bool}
 use Rattle.std.proofs.lemmas.List.{append-nil, length-append}
 use Rattle.cluster_slots.specs.Address.{Address}
@@ -7,7 +8,7 @@ use Rattle.redis_cluster.specs.Trace.{Entry, Ending, answered, entry}
 use Rattle.redis_cluster.specs.Sent.{IsUnanswered, ending_of}
 use Rattle.redis_cluster.specs.declared.nodes.SendError.{SendError}
 use Rattle.redis_cluster.specs.Attempts.{AreAllowed}
-use Rattle.redis_cluster.proofs.Constructors.{same_some, none_apart}
+use Rattle.redis_cluster.proofs.Constructors.{none_apart}
 
 -- an element of two lists, one behind the other, is of the first or of the second
 pub at_either : {X : Type 0} (xs ys : List X) (k : ℕ) (x : X) → slice_get (xs ++ ys) k ≡ Some x → (slice_get xs k ≡ Some x) ⊎ ((m : ℕ) × (k ≡ length xs + m) × (slice_get ys m ≡ Some x))
@@ -27,14 +28,7 @@ module _ (may_refuse : ℕ → Ending → Type 0) where
   allowed_none old new same = record { entries = []; grew = same ∙ sym (append-nil old); each = λ number e at. absurd (none_apart e at) }
 
   allowed_one : (old new : List Entry) (e : Entry) → new ≡ old ++ e ∷ [] → (e.ending ≡ answered) ⊎ may_refuse (length old) e.ending → AreAllowed may_refuse old new
-  allowed_one old new e grew so = record { entries = e ∷ []; grew = grew; each = first }
-    where
-      first : (number : ℕ) (f : Entry) → slice_get (e ∷ []) number ≡ Some f → (f.ending ≡ answered) ⊎ may_refuse (length old + number) f.ending
-      first zero f at =
-          let here : length old ≡ length old + 0 = omega arith in
-          subst (λ (x : Entry). (x.ending ≡ answered) ⊎ may_refuse (length old + 0) x.ending) (same_some e f at)
-          (subst (λ n. (e.ending ≡ answered) ⊎ may_refuse n e.ending) here so)
-      first (suc number) f at = absurd (none_apart f at)
+  allowed_one old new e grew so = grind (arith, common_steps)
 
   allowed_unanswered : (old new : List Entry) (mark : Bool) (node : Address) (args : List (List ℕ)) (ending : Option Ending) → IsUnanswered may_refuse old new mark node args ending → AreAllowed may_refuse old new
   allowed_unanswered old new mark node args None h = allowed_none old new h.0

@@ -1,7 +1,7 @@
 -- Parts that are served at moments of their own do what the whole command does to a keyspace that has, at each key, what stood there at the moment of its part.
-use Rattle.std.proofs.Common.{◌≡◌, ℕ, List, [], ◌∷◌, ◌++◌, true, cond, Result, Some, Ok, All, refl, sym, ap, ◌∙◌, subst, arith, length, map, get_or}
+use Rattle.std.proofs.Common.{◌≡◌, ℕ, List, [], ◌∷◌, ◌++◌, true, Result, Some, Ok, All, refl, sym, ap, ◌∙◌, subst, arith, length, map, get_or}
+use Rattle.std.proofs.lemmas.Grind.{common_steps}
 use Rattle.std.specs.Prelude.{nat_eq}
-use Rattle.std.specs.Str.{bytes_eq}
 use Rattle.std.specs.List.{list_any}
 use Rattle.std.proofs.Math.Path.{fun_ext}
 use Rattle.std.proofs.lemmas.Bool.{eqb-true}
@@ -35,11 +35,7 @@ module _ {C : Type 0} (act : Act C) where
   -- the results depend on what stands at the tuples' keys alone
   results_own : (Own : List ℕ → Type 0) (ts : List KeyTuple) (a b : Keyspace C) → All (λ t. Own t.key) ts → ((key : List ℕ) → Own key → a key ≡ b key) → results act ts a ≡ results act ts b
   results_own Own [] a b among same = refl
-  results_own Own (t ∷ ts) a b among same =
-      ap (λ c. (act t c).result ∷ results act ts (put t.key (act t c).cell a)) (same t.key (All-head (λ (u : KeyTuple). Own u.key) t ts among))
-      ∙ ap (λ rs. (act t (b t.key)).result ∷ rs)
-      (results_own Own ts (put t.key (act t (b t.key)).cell a) (put t.key (act t (b t.key)).cell b) (All-tail (λ (u : KeyTuple). Own u.key) t ts among)
-      (λ key own. ap (cond (bytes_eq t.key key) (act t (b t.key)).cell) (same key own)))
+  results_own Own (t ∷ ts) a b among same = grind (arith, common_steps, All-head, All-tail, results_own Own ts (put t.key (act t (b t.key)).cell a) (put t.key (act t (b t.key)).cell b) (All-tail (λ (u : KeyTuple). Own u.key) t ts among))
 
   -- the keyspace that has, at each key, what the node of the key's slot held
   abbrev assembled : HeldBySlot C → Keyspace C
@@ -113,10 +109,7 @@ parts_act_by_slot C registered args =
 
 -- What is made of the replies to the parts of a plan is the reply amid what others write.
 pub reply_amid : (C : Type 0) (registered : Registrations) (plan : Plan) (command : MultiKey) (value : Reply) (replies : List Reply) → IsPlanOf registered command plan → IsSplit plan.split → IsMadeOfParts plan.split replies (Ok value) → IsReplyAmid C command replies value
-reply_amid C registered plan command value replies is split made = λ step held one assembled said.
-    let same : Ok value ≡ Ok (reply_to step command one) =
-    outcome_amid step command (command_shares plan.split split command is.tuples) held one assembled replies (Ok value) said (made_of_command plan.split command split is.form is.tuples replies (Ok value) made) in
-    cc
+reply_amid C registered plan command value replies is split made = grind (arith, common_steps, outcome_amid, command_shares plan.split split command is.tuples, made_of_command plan.split command split is.form is.tuples replies (Ok value) made)
 
 -- Replies that came in an order of a plan's routes are replies to the command's parts.
 pub have_replied : (registered : Registrations) (plan : Plan) (command : MultiKey) (order : List ℕ) (old new : List Reply → Type 0) (replies : List Reply)

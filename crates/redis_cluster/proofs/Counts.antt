@@ -1,5 +1,5 @@
 -- How often numbers stand in lists, and sums that count.
-use Rattle.std.proofs.Common.{◌≡◌, ℕ, ◌+◌, ◌*◌, ◌<◌, List, [], ◌∷◌, ◌++◌, true, false, cond, refl, sym, ap, ◌∙◌, arith}
+use Rattle.std.proofs.Common.{◌≡◌, ℕ, ◌+◌, ◌*◌, ◌<◌, List, [], ◌∷◌, ◌++◌, true, false, cond, refl, ap, ◌∙◌, arith}
 use Rattle.std.specs.Prelude.{nat_eq}
 use Rattle.std.specs.List.{sum_by, list_any}
 use Rattle.std.proofs.lemmas.Bool.Decides.{nat_tests}
@@ -64,10 +64,4 @@ once_times w = omega arith
 -- what is added wherever a number stands is added as often as it stands there
 pub sum_at : (n w : ℕ) (xs : List ℕ) → sum_by (λ x. cond (nat_eq n x) w 0) xs ≡ times n xs * w
 sum_at n w [] = omega arith
-sum_at n w (x ∷ xs) =
-    let e : sum_by (λ x. cond (nat_eq n x) w 0) (x ∷ xs) ≡ cond (nat_eq n x) w 0 + sum_by (λ x. cond (nat_eq n x) w 0) xs = sum_by-cons (λ x. cond (nat_eq n x) w 0) x xs in
-    let rest = sum_at n w xs in
-    by_test (nat_eq n x)
-    (λ here. e ∙ ap (λ b. cond b w 0 + sum_by (λ x. cond (nat_eq n x) w 0) xs) here ∙ ap (λ k. w + k) rest ∙ sym (ap (λ k. k * w) (times_here n x xs here) ∙ one_more (times n xs) w))
-    (λ there. let none = e ∙ ap (λ b. cond b w 0 + sum_by (λ x. cond (nat_eq n x) w 0) xs) there in
-    omega (arith, none, rest, ap (λ k. k * w) (times_there n x xs there)))
+sum_at n w (x ∷ xs) = grind (arith, common_steps, sum_by-cons, by_test, times_here, one_more (times n xs) w, times_there, sum_at n w xs)

@@ -1,12 +1,12 @@
 -- What is tried for the routes of a command, each with its retry.
 use Rattle.std.proofs.Common.{◌≡◌, ◌∙◌, ℕ, zero, suc, ◌+◌, arith, List, [], ◌∷◌, ◌++◌, Some, All, ap, sym, subst, rules, map, take, length}
+use Rattle.std.proofs.lemmas.Grind.{common_steps}
 use Rattle.std.specs.Prelude.{IsSome, slice_get}
 use Rattle.std.specs.declared.alloc.Global.{Global}
 use Rattle.std.specs.declared.vec.Vec.{Vec}
 use Rattle.std.proofs.lemmas.List.{length-map}
 use Rattle.std.proofs.lemmas.Slice.Zip.{all_zipped_more}
 use Rattle.std.specs.List.{AllZip, zip}
-use Rattle.std.specs.Option.{option_to_list}
 use Rattle.std.proofs.lemmas.List.Elements.{All-cons, All-nil}
 use Rattle.cluster_slots.specs.Address.{Address}
 use Rattle.cluster_slots.specs.SlotRoute.{SlotRoute}
@@ -31,18 +31,7 @@ each_try IsNode r retries [] (n ∷ nodes) (p ∷ parts) own each begun = absurd
 each_try IsNode r retries (route ∷ routes) [] parts own each begun = absurd each
 each_try IsNode r retries (route ∷ routes) (n ∷ nodes) [] own each begun = absurd each
 each_try IsNode r retries (route ∷ routes) (n ∷ nodes) (p ∷ parts) [] each begun = absurd begun
-each_try IsNode r retries (route ∷ routes) (n ∷ nodes) (p ∷ parts) (o ∷ own) each begun = (
-  record {
-    part = each.0.1;
-    node = n;
-    is_node = each.0.0;
-    fallback = o.fallback;
-    is_fallback = begun.0.fallback;
-    places = ap (λ t. option_to_list t ++ o.fallback) begun.0.target;
-    retries_are = begun.0.left;
-  },
-  each_try IsNode r retries routes nodes parts own each.1 begun.1,
-)
+each_try IsNode r retries (route ∷ routes) (n ∷ nodes) (p ∷ parts) (o ∷ own) each begun = grind (arith, common_steps, each_try IsNode r retries routes nodes parts own each.1 begun.1)
 
 -- each retry names a target at first
 pub each_named : (map : List (ranges.RangeEntry SlotNodes)) (retries : ℕ) (places : List (SlotRoute × Address)) (own : List Attempt) → AllZip (IsRetryOf map retries) places own → All (λ (retry : Attempt). IsSome retry.target) own
@@ -72,10 +61,7 @@ get_map f (y ∷ xs) (suc k) x at = get_map f xs k x at
 pub one_more : (entries : List (ranges.RangeEntry SlotNodes)) (retries : ℕ) (routes : List SlotRoute) (nodes : List Address) (own : List Attempt) (number : ℕ) (route : SlotRoute) (node : Address) (retry : Attempt)
     → AllZip (IsRetryOf entries retries) (take number (zip routes nodes)) own → slice_get routes number ≡ Some route → slice_get nodes number ≡ Some node → IsRetryOf entries retries (route, node) retry
     → AllZip (IsRetryOf entries retries) (take (number + 1) (zip routes nodes)) (own ++ retry ∷ [])
-one_more entries retries routes nodes own number route node retry so_far at_route at_node begun =
-    let next : number + 1 ≡ suc number = omega arith in
-    subst (λ zs. AllZip (IsRetryOf entries retries) zs (own ++ retry ∷ [])) (sym (ap (λ n. take n (zip routes nodes)) next ∙ take_there (zip routes nodes) number (route, node) (zip_there routes nodes number route node at_route at_node)))
-    (all_zipped_more (IsRetryOf entries retries) (take number (zip routes nodes)) own (route, node) retry so_far begun)
+one_more entries retries routes nodes own number route node retry so_far at_route at_node begun = grind (arith, common_steps, take_there (zip routes nodes) number (route, node) (zip_there routes nodes number route node at_route at_node), zip_there routes nodes number route node at_route at_node, all_zipped_more (IsRetryOf entries retries) (take number (zip routes nodes)) own (route, node) retry so_far begun)
 
 -- the route of a place, by the routes as they are held
 pub route_at : (held : List (SlotRoute × Vec ℕ Global)) (routes : List (SlotRoute × List ℕ)) (number : ℕ) (found : SlotRoute × Vec ℕ Global) → route_lists held ≡ routes → slice_get held number ≡ Some found → slice_get (map (λ r. r.0) routes) number ≡ Some found.0

@@ -1,5 +1,6 @@
 -- What stands when the parts were sent, or the sends stopped.
 use Rattle.std.proofs.Common.{◌≡◌, ◌<◌, ℕ, zero, suc, ◌+◌, List, [], ◌∷◌, ◌++◌, Option, Some, None, All, inl, inr, refl, sym, ap, ◌∙◌, arith, subst, map, take, length, get_or}
+use Rattle.std.proofs.lemmas.Grind.{common_steps}
 use Rattle.std.specs.Prelude.{slice_get, Bool}
 use Rattle.std.proofs.Common.{⊎_elim}
 use Rattle.std.specs.List.{AllZip}
@@ -112,9 +113,7 @@ module _ {C : Type 0} (IsNode : SlotRoute → Address → Type 0) (step : Step C
 
     module _ (IsTry : SlotRoute → Try → Type 0) (tries : List Try) (are : AllZip IsTry routes tries) where
       tried_first : (count : ℕ) (trace : List Entry) → SentInTurn (in_order tries (take count r.order)) old.trace trace → AreTried IsTry (take count (in_order routes r.order)) old.trace trace
-      tried_first count trace tried =
-          subst (λ rs. AreTried IsTry rs old.trace trace) (sym (take_in_order routes count r.order of_routes.below))
-          (tried_all IsTry (in_order routes (take count r.order)) (in_order tries (take count r.order)) old.trace trace (both_in_order IsTry routes tries (take count r.order) are) tried)
+      tried_first count trace tried = grind (arith, common_steps, take_in_order routes count r.order of_routes.below, tried_all IsTry (in_order routes (take count r.order)) (in_order tries (take count r.order)) old.trace trace (both_in_order IsTry routes tries (take count r.order) are) tried, both_in_order IsTry routes tries (take count r.order) are)
 
       -- all were tried
       pub tried_whole : SentInTurn (in_order tries r.order) old.trace new.trace → AreTried IsTry (in_order routes r.order) old.trace new.trace

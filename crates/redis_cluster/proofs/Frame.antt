@@ -1,5 +1,5 @@
 -- What sends do not change, one after the other.
-use Rattle.std.proofs.Common.{◌∙◌, arith}
+use Rattle.std.proofs.Common.{arith}
 use Rattle.std.proofs.lemmas.Grind.{common_steps}
 use Rattle.redis_cluster.specs.Frame.{SameNodes}
 use Rattle.redis_cluster.specs.declared.nodes.Nodes.{Ghosts}

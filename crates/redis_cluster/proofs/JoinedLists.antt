@@ -1,5 +1,5 @@
 -- The arrays of a command's parts, put in the order of its keys, are one array.
-use Rattle.std.proofs.Common.{◌≡◌, ℕ, ◌<◌, List, [], ◌∷◌, ◌++◌, Bool, true, false, cond, Option, Some, None, Ok, Err, All, map, length, get_or, refl, sym, ap, ◌∙◌, subst, arith}
+use Rattle.std.proofs.Common.{◌≡◌, ℕ, ◌<◌, List, [], ◌∷◌, ◌++◌, Bool, true, false, cond, Option, Some, None, Ok, All, map, length, get_or, refl, sym, ap, ◌∙◌, subst, arith}
 use Rattle.std.specs.Prelude.{nat_eq, nat_lt, slice_get, option_map, option_and_then}
 use Rattle.std.specs.List.{AllZip, filter_map, list_all, range_with_len, zip}
 use Rattle.std.specs.Option.{option_to_list}
@@ -13,7 +13,6 @@ use Rattle.std.proofs.lemmas.Option.{slice_get-get_or}
 use Rattle.std.proofs.lemmas.Grind.{common_steps}
 use Rattle.cluster_slots.specs.SlotRoute.{SlotRoute}
 use Rattle.resp_core.specs.Reply.{Reply, array, array_of, replies_of}
-use Rattle.resp_core.specs.declared.error.ErrorKind.TheVariants.{Client}
 use Rattle.resp_core.proofs.Cases.{by_test}
 use Rattle.cluster_slots.specs.Lists.{all_some, flatten}
 use Rattle.cluster_slots.specs.declared.arg_pattern.MultiSlotArgPattern.{MultiSlotArgPattern}
@@ -21,7 +20,7 @@ use Rattle.redis_combiners.specs.AllItems.{all_items}
 use Rattle.redis_combiners.specs.ByPlaces.{by_places, items_of_index, single}
 use Rattle.redis_combiners.specs.KeyPlaces.{all_places, places}
 use Rattle.redis_combiners.specs.Misfits.{first_misfit, misfit}
-use Rattle.redis_combiners.specs.SortedArrays.{array_by_places, array_or_refusal, sorted_arrays}
+use Rattle.redis_combiners.specs.SortedArrays.{array_or_refusal, sorted_arrays}
 use Rattle.redis_combiners.proofs.Arranging.{items_at-cons}
 use Rattle.redis_cluster.specs.MultiKey.{KeyTuple, tuples_of_slot}
 use Rattle.redis_cluster.specs.Orders.{NamesOnce, in_order, times}
@@ -47,9 +46,7 @@ module _ (xs : List Reply) where
 
   -- what stands where a number does not
   other_place : (k p : ℕ) (ps : List ℕ) (d : Reply) → p < length xs → nat_eq k p ≡ false → items_of_index k (p ∷ ps) (in_order xs (p ∷ ps)) ≡ items_of_index k ps (in_order xs ps)
-  other_place k p ps d l there =
-      ap (items_of_index k (p ∷ ps)) (taken p ps d l) ∙ items_at-cons k p ps (get_or xs p d) (in_order xs ps)
-      ∙ ap (λ b. cond b (get_or xs p d ∷ items_of_index k ps (in_order xs ps)) (items_of_index k ps (in_order xs ps))) (same_test k p false there)
+  other_place k p ps d l there = grind (arith, common_steps, taken p ps d l, items_at-cons k p ps (get_or xs p d) (in_order xs ps), same_test k p false there)
 
   none_at : (k : ℕ) (ps : List ℕ) (d : Reply) → All (λ p. p < length xs) ps → times k ps ≡ 0 → items_of_index k ps (in_order xs ps) ≡ []
   none_at k [] d small none = refl
@@ -79,10 +76,7 @@ module _ (xs : List Reply) where
 
   all_small : (n : ℕ) (ps : List ℕ) → All (λ p. p < n) ps → list_all (λ p. nat_lt p n) ps ≡ true
   all_small n [] small = refl
-  all_small n (p ∷ ps) small =
-      let l : p < n = All-head (λ q. q < n) p ps small in
-      let here : nat_lt p n ≡ true = grind (arith, nat_tests) in
-      rw here (all_small n ps (All-tail (λ q. q < n) p ps small))
+  all_small n (p ∷ ps) small = grind (arith, common_steps, All-head, nat_tests, All-tail, all_small n ps (All-tail (λ q. q < n) p ps small))
 
   -- Items taken in an order that names each once are all of them again, by their places.
   put_back : (order : List ℕ) → NamesOnce (length xs) order → by_places order (in_order xs order) ≡ Some xs
@@ -118,14 +112,7 @@ parts_places ts pattern (r ∷ routes) placed =
 pub sorted_is : (ts : List KeyTuple) (pattern : MultiSlotArgPattern) (routes : List (SlotRoute × List ℕ)) (replies : List Reply) → All (λ r. r.1 ≡ places_of_part pattern ts r.0.slot) routes → length replies ≡ length routes
     → sorted_arrays pattern replies (map (λ r. r.1) routes)
     ≡ array_or_refusal (first_misfit replies (map (λ slot. length (tuples_of_slot slot ts)) (slots_of routes))) (option_and_then (by_places (flatten (map (λ slot. numbers_of_slot slot ts) (slots_of routes)))) (all_items replies))
-sorted_is ts pattern routes replies placed each =
-    let slots = slots_of routes in
-    let numbers = map (λ slot. numbers_of_slot slot ts) slots in
-    let same : length replies ≡ length numbers = each ∙ sym (length-map routes (λ r. r.0.slot)) ∙ sym (length-map slots (λ slot. numbers_of_slot slot ts)) in
-    let items = option_and_then (by_places (flatten numbers)) (all_items replies) in
-    ap (λ lists. array_by_places lists replies) (parts_places ts pattern routes placed)
-    ∙ ap (λ b. cond b (array_or_refusal (first_misfit replies (map length numbers)) items) (Err Client)) (eq-eqb (length replies) (length numbers) same)
-    ∙ ap (λ counts. array_or_refusal (first_misfit replies counts) items) (counts_are ts slots)
+sorted_is ts pattern routes replies placed each = grind (arith, common_steps, numbers_of_slot, length-map, parts_places ts pattern routes placed, eq-eqb, counts_are)
 
 -- replies that are arrays of the values of their tuples
 module _ (ts : List KeyTuple) (values : List Reply) (l : length values ≡ length ts) where
@@ -168,8 +155,4 @@ module _ (ts : List KeyTuple) (values : List Reply) (l : length values ≡ lengt
   -- The arrays of the parts are put in the order of the keys to make one.
   pub arrays_sorted : (pattern : MultiSlotArgPattern) (routes : List (SlotRoute × List ℕ)) (replies : List Reply) → NamesSlots (slots_of routes) ts → All (λ r. r.1 ≡ places_of_part pattern ts r.0.slot) routes
       → length replies ≡ length routes → Arrays (slots_of routes) replies → sorted_arrays pattern replies (map (λ r. r.1) routes) ≡ Ok (array (replies_of values))
-  arrays_sorted pattern routes replies named placed each are =
-      let slots = slots_of routes in
-      sorted_is ts pattern routes replies placed each
-      ∙ ap (λ kind. array_or_refusal kind (option_and_then (by_places (flatten (map (λ slot. numbers_of_slot slot ts) slots))) (all_items replies))) (no_misfit slots replies are)
-      ∙ ap (array_or_refusal None) (sorted slots replies named are)
+  arrays_sorted pattern routes replies named placed each are = grind (arith, common_steps, sorted_is ts pattern routes replies placed each, numbers_of_slot, no_misfit, sorted)

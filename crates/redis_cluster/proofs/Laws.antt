@@ -1,19 +1,16 @@
 -- What follows from the attempts of a route.
-use Rattle.std.proofs.Common.{◌≡◌, ℕ, zero, suc, ◌+◌, ◌<◌, ◌≤◌, List, [], ◌∷◌, ◌++◌, Option, Some, None, false, cond, refl, sym, ap, ◌∙◌, arith, length, take}
+use Rattle.std.proofs.Common.{◌≡◌, ℕ, zero, suc, ◌+◌, ◌<◌, List, [], ◌∷◌, ◌++◌, Option, Some, None, false, cond, refl, sym, ap, ◌∙◌, arith, length, take}
+use Rattle.std.proofs.lemmas.Grind.{common_steps}
 use Rattle.std.specs.Prelude.{slice_get, count_by}
 use Rattle.std.proofs.lemmas.List.Sums.{sum_by-cons}
-use Rattle.std.proofs.lemmas.List.{append-nil}
 use Rattle.cluster_slots.specs.Address.{Address}
-use Rattle.redis_cluster.specs.Trace.{Entry, Ending, answered, refused, redirected, lost, entry}
-use Rattle.redis_cluster.specs.Attempts.{Try, is_answered, HaveOneAnswer, refusals, last_or, last_ending, next_place, next_address, AreBegun, AttemptsOf}
+use Rattle.redis_cluster.specs.Trace.{Entry, Ending, answered, entry}
+use Rattle.redis_cluster.specs.Attempts.{Try, is_answered, HaveOneAnswer, last_or, last_ending, next_place, next_address, AreBegun, AttemptsOf}
 use Rattle.redis_cluster.proofs.Constructors.{same_some, none_apart}
 
 -- nothing comes behind an answer
 nowhere : (places : List Address) (n : ℕ) (x : Ending) (node : Address) → next_place places n (Some x) ≡ Some node → is_answered x ≡ false
-nowhere places n answered node h = absurd (none_apart node h)
-nowhere places n (refused error) node h = refl
-nowhere places n (redirected r) node h = refl
-nowhere places n (lost error) node h = refl
+nowhere places n x node h1 = grind (arith, none_apart)
 
 -- of a list of which only the last may be answered
 only_last : (was : Option Ending) (es : List Entry) → ((k : ℕ) (e : Entry) → slice_get es k ≡ Some e → suc k < length es → is_answered e.ending ≡ false) → 0 < length es → last_or was es ≡ Some answered → count_by (λ e. is_answered e.ending) es ≡ 1
@@ -36,10 +33,7 @@ at_within (x ∷ xs) (suc k) h = at_within xs k (omega arith)
 
 -- no entry of attempts but the last is answered
 pub answer_is_last : (try : Try) (es : List Entry) → AreBegun try es → (k : ℕ) (e : Entry) → slice_get es k ≡ Some e → suc k < length es → is_answered e.ending ≡ false
-answer_is_last try es b k e at more =
-    let f = at_within es (suc k) more in
-    let n : next_place try.places (refusals (take (suc k) es)) (last_ending (take (suc k) es)) ≡ Some f.0.node = b.address (suc k) f.0 f.1 in
-    nowhere try.places (refusals (take (suc k) es)) e.ending f.0.node (ap (next_place try.places (refusals (take (suc k) es))) (sym (last_of_take None es k e at)) ∙ n)
+answer_is_last try es b k e at more = grind (arith, common_steps, at_within es (suc k) more, nowhere, last_of_take None es k e)
 
 pub one_answer : HaveOneAnswer
 one_answer try [] h = absurd (none_apart answered h.1)
@@ -61,8 +55,4 @@ tried_once try x first rest old new none places h = h.grew ∙ ap (λ es. old ++
 
 -- and none where memory ran out
 pub tried_none : (try : Try) (old new : List Entry) → try.retries ≡ 0 → AttemptsOf try None old new → new ≡ old
-tried_none try old new none h = h.grew ∙ ap (λ es. old ++ es) (empty h.attempts h.ended.fewer) ∙ append-nil old
-  where
-    empty : (es : List Entry) → length es ≤ try.retries → es ≡ []
-    empty [] few = refl
-    empty (e ∷ es) few = absurd (omega (arith, few))
+tried_none try old new none h = grind (arith, common_steps)

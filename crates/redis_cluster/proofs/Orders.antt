@@ -1,5 +1,5 @@
 -- Orders that name each number once: what is taken in such an order, and how far a loop over it has come.
-use Rattle.std.proofs.Common.{◌≡◌, ℕ, zero, suc, ◌+◌, ◌*◌, ◌<◌, ◌≤◌, List, [], ◌∷◌, ◌++◌, false, cond, Option, Some, None, option_map, option_and_then, All, refl, sym, ap, ◌∙◌, arith, length, map, take, drop, get_or, zero-add}
+use Rattle.std.proofs.Common.{◌≡◌, ℕ, zero, suc, ◌+◌, ◌*◌, ◌<◌, ◌≤◌, List, [], ◌∷◌, ◌++◌, false, cond, Option, Some, None, option_and_then, All, refl, sym, ap, ◌∙◌, arith, length, map, take, drop, get_or, zero-add}
 use Rattle.std.specs.Prelude.{nat_eq, slice_get}
 use Rattle.std.specs.List.{sum_by, flat_map}
 use Rattle.std.specs.Option.{option_to_list}
@@ -75,14 +75,7 @@ sum-in_order f xs order names =
 -- the values of a function may be taken before or after the order
 pub map-in_order : {X Y : Type 0} (f : X → Y) (xs : List X) (order : List ℕ) → map f (in_order xs order) ≡ in_order (map f xs) order
 map-in_order f xs [] = refl
-map-in_order f xs (k ∷ order) =
-    map-append f (option_to_list (slice_get xs k)) (in_order xs order)
-    ∙ ap (λ ys. map f (option_to_list (slice_get xs k)) ++ ys) (map-in_order f xs order)
-    ∙ ap (λ ys. ys ++ in_order (map f xs) order) (one (slice_get xs k) ∙ ap option_to_list (sym (slice_get-map f xs k)))
-  where
-    one : (o : Option _) → map f (option_to_list o) ≡ option_to_list (option_map f o)
-    one None = refl
-    one (Some x) = refl
+map-in_order f xs (k ∷ order) = grind (arith, common_steps, map-append, slice_get-map, map-in_order f xs order)
 
 -- a number stands as often in another order
 pub times-in_order : (n : ℕ) (xs order : List ℕ) → NamesOnce (length xs) order → times n (in_order xs order) ≡ times n xs
@@ -131,15 +124,9 @@ in_order_split xs order i = ap (in_order xs) (sym (take-append-drop i order)) �
 
 -- a number that stands at most once in a list does so among those taken so far
 pub apart_front : (xs order : List ℕ) (i n : ℕ) → NamesOnce (length xs) order → times n xs ≤ 1 → times n (in_order xs (take i order)) ≤ 1
-apart_front xs order i n names apart =
-    let split : times n (in_order xs order) ≡ times n (in_order xs (take i order)) + times n (in_order xs (drop i order)) =
-    ap (times n) (in_order_split xs order i) ∙ times-append n (in_order xs (take i order)) (in_order xs (drop i order)) in
-    omega (arith, split, times-in_order n xs order names)
+apart_front xs order i n names apart = grind (arith, common_steps, in_order_split xs order i, times-append n (in_order xs (take i order)) (in_order xs (drop i order)), times-in_order n xs order names)
 
 -- The number that comes next was not taken before, where none stands twice.
 pub not_before : (xs order : List ℕ) (i k x : ℕ) → NamesOnce (length xs) order → ((n : ℕ) → times n xs ≤ 1) → i < length order
     → k ≡ get_or order i 0 → slice_get xs k ≡ Some x → times x (in_order xs (take i order)) ≡ 0
-not_before xs order i k x names apart within at is =
-    let more : times x (in_order xs (take (i + 1) order)) ≡ times x (in_order xs (take i order)) + 1 =
-    ap (times x) (in_order_more xs order i k x within at is) ∙ times_push x (in_order xs (take i order)) in
-    omega (arith, more, apart_front xs order (i + 1) x names (apart x))
+not_before xs order i k x names apart within at is = grind (arith, common_steps, in_order_more xs order i k x within, times_push x (in_order xs (take i order)), apart_front xs order (i + 1) x names (apart x))

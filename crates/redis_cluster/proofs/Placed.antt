@@ -15,7 +15,6 @@ use Rattle.redis_cluster.specs.SlotItems.{items_of_slot}
 use Rattle.redis_cluster.proofs.Counts.{same_number, times_there, sum_alike}
 use Rattle.redis_cluster.proofs.Fold.{NamesSlots}
 use Rattle.redis_cluster.proofs.Orders.{sum-flat_map, map-in_order, get-in_order}
-use Rattle.redis_cluster.proofs.Once.{stands}
 use Rattle.redis_cluster.proofs.Places.{numbers_from, numbers_of_slot, slot_at, times-numbers, items_of_slot_is}
 
 -- the slot of a tuple is named once

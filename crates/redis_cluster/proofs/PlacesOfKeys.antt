@@ -1,12 +1,11 @@
 -- The places of the keys of a slot's part are the numbers of the slot's tuples.
-use Rattle.std.proofs.Common.{◌≡◌, ℕ, zero, suc, ◌+◌, ◌-◌, ◌*◌, ◌/◌, ◌%◌, ◌<◌, List, [], ◌∷◌, ◌++◌, Some, length, get_or, slice_index, refl, sym, ap, ◌∙◌, arith}
+use Rattle.std.proofs.Common.{◌≡◌, ℕ, zero, suc, ◌*◌, ◌/◌, ◌%◌, ◌<◌, List, [], ◌∷◌, ◌++◌, Some, length, get_or, slice_index, refl, ap, ◌∙◌, arith}
 use Rattle.std.specs.List.{flat_map}
 use Rattle.std.proofs.lemmas.List.{append-nil, get_or_append_left, get_or-append-add, length-append, same_lists}
 use Rattle.std.proofs.lemmas.List.FromFn.{get_or-range_with_len, get_or-map-range_with_len, length-range_with_len}
 use Rattle.std.proofs.lemmas.Grind.{common_steps}
 use Rattle.cluster_slots.specs.ArgPattern.{width_of}
 use Rattle.cluster_slots.specs.declared.arg_pattern.MultiSlotArgPattern.{MultiSlotArgPattern}
-use Rattle.cluster_slots.specs.declared.arg_pattern.MultiSlotArgPattern.TheVariants.{KeysOnly, KeyValuePairs, KeysAndLastArg, KeyWithTwoArgTriples}
 use Rattle.cluster_slots.proofs.ArgPatterns.{some_width}
 use Rattle.redis_combiners.specs.KeyPlaces.{own_arguments, places}
 use Rattle.redis_combiners.proofs.KeyPlaces.{heads, length-heads, places_are}
@@ -25,29 +24,14 @@ length-arguments_of width (n ∷ ns) = grind (arith, length-append, argument_pla
 -- the first argument of a tuple
 first_argument : (width : ℕ) (numbers : List ℕ) (i : ℕ) → 0 < width → i < length numbers → slice_index (arguments_of width numbers) (width * i) ≡ get_or numbers i 0 * width
 first_argument width [] i some l = absurd (omega arith)
-first_argument width (n ∷ ns) zero some l =
-    let start : width * 0 ≡ 0 = omega arith in
-    ap (slice_index (arguments_of width (n ∷ ns))) start
-    ∙ get_or_append_left (argument_places width n) (arguments_of width ns) 0 0 (omega (arith, length-range_with_len (n * width) width))
-    ∙ get_or-range_with_len (n * width) width 0 0 some
-    ∙ omega arith
-first_argument width (n ∷ ns) (suc i) some l =
-    let next : width * suc i ≡ length (argument_places width n) + width * i = omega (arith, length-range_with_len (n * width) width) in
-    ap (slice_index (arguments_of width (n ∷ ns))) next
-    ∙ get_or-append-add (argument_places width n) (arguments_of width ns) (width * i) 0
-    ∙ first_argument width ns i some (omega arith)
+first_argument width (n ∷ ns) zero some l = grind (arith, slice_index, get_or_append_left, argument_places, length-range_with_len, get_or-range_with_len)
+first_argument width (n ∷ ns) (suc i) some l = grind (arith, argument_places, length-range_with_len, slice_index, get_or-append-add, first_argument width ns i some (omega arith))
 
 divided : (pattern : MultiSlotArgPattern) (n : ℕ) → n * width_of pattern / width_of pattern ≡ n
-divided KeysOnly n = omega arith
-divided KeyValuePairs n = omega arith
-divided KeysAndLastArg n = omega arith
-divided KeyWithTwoArgTriples n = omega arith
+divided pattern n = grind (arith)
 
 whole : (pattern : MultiSlotArgPattern) (n : ℕ) → n * width_of pattern % width_of pattern ≡ 0
-whole KeysOnly n = omega arith
-whole KeyValuePairs n = omega arith
-whole KeysAndLastArg n = omega arith
-whole KeyWithTwoArgTriples n = omega arith
+whole pattern n = grind (arith)
 
 heads_are : (pattern : MultiSlotArgPattern) (numbers : List ℕ) → heads (width_of pattern) (arguments_of (width_of pattern) numbers) (length numbers) ≡ numbers
 heads_are pattern numbers =
@@ -68,10 +52,7 @@ heads_are pattern numbers =
 
 -- without the place that all keys share they are the arguments of the tuples
 own_are : (pattern : MultiSlotArgPattern) (own : List ℕ) (m : ℕ) → Some own ≡ own_arguments pattern (own ++ shared_places pattern m)
-own_are KeysOnly own m = ap Some (sym (append-nil own))
-own_are KeyValuePairs own m = ap Some (sym (append-nil own))
-own_are KeysAndLastArg own m = grind (arith, common_steps)
-own_are KeyWithTwoArgTriples own m = ap Some (sym (append-nil own))
+own_are pattern own m = grind (arith, append-nil, common_steps)
 
 -- The places of the keys of a slot's part are the numbers of the slot's tuples.
 pub places_of_keys : (pattern : MultiSlotArgPattern) (ts : List KeyTuple) (slot : ℕ) → places pattern (places_of_part pattern ts slot) ≡ Some (numbers_of_slot slot ts)

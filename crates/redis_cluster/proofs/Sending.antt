@@ -167,13 +167,7 @@ set_unnamed xs k x (j ∷ sent) none =
 -- one reply more came
 pub given_more : (old mid new : List Reply → Type 0) (replies : List (Option Value)) (order : List ℕ) (i k : ℕ) (value : Value) → i < length order → k ≡ get_or order i 0 → k < length replies → times k (take i order) ≡ 0
     → ((before : List Reply) → mid before → new (before ++ view value ∷ [])) → AreGivenSo old mid replies (take i order) → AreGivenSo old new (slice_set replies k (Some value)) (take (i + 1) order)
-given_more old mid new replies order i k value inside is room none came so = record {
-  values = so.values ++ value ∷ [];
-  told = in_order_more (slice_set replies k (Some value)) order i k (Some value) inside is (set_here replies k (Some value) room)
-      ∙ ap (λ os. os ++ Some value ∷ []) (set_unnamed replies k (Some value) (take i order) none ∙ so.told)
-      ∙ sym (map_push Some so.values value);
-  gave = λ before was. subst new (append_assoc before (map view so.values) (view value ∷ []) ∙ ap (λ vs. before ++ vs) (sym (map_push view so.values value))) (came (before ++ map view so.values) (so.gave before was));
-}
+given_more old mid new replies order i k value inside is room none came so = grind (arith, in_order_more (slice_set replies k (Some value)) order i k (Some value) inside is (set_here replies k (Some value) room), set_here replies k (Some value) room, set_unnamed replies k (Some value) (take i order) none, map_push Some so.values value, map_push view so.values value, append_assoc)
 
 -- the same values
 some_same : (xs ys : List Value) → map Some xs ≡ map Some ys → xs ≡ ys

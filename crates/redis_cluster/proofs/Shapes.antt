@@ -1,5 +1,5 @@
 -- The tuples of a shape are those of the pattern with the indices of their arguments left out.
-use Rattle.std.proofs.Common.{◌≡◌, ℕ, zero, suc, ◌+◌, ◌-◌, ◌*◌, ◌/◌, ◌%◌, ◌≤◌, List, [], ◌∷◌, true, map, length, take, drop, get_or, cond, refl, sym, ap, ◌∙◌, arith}
+use Rattle.std.proofs.Common.{◌≡◌, ℕ, zero, suc, ◌+◌, ◌-◌, ◌*◌, ◌≤◌, List, [], ◌∷◌, true, map, length, take, drop, get_or, refl, ap, arith}
 use Rattle.std.specs.Prelude.{slice_get}
 use Rattle.std.proofs.Math.Seq.{take-length}
 use Rattle.std.specs.Simd.{first_chunks}
@@ -17,10 +17,7 @@ tuple_by t = record { key = get_or t 0 []; extras = drop 1 t }
 
 -- as many arguments are whole by the shape as are complete by the pattern
 pub whole_is : (pattern : MultiSlotArgPattern) (m : ℕ) → is_whole (shape_of pattern) m ≡ is_complete pattern m
-whole_is KeysOnly m = grind (arith, nat_tests)
-whole_is KeyValuePairs m = grind (arith, nat_tests)
-whole_is KeysAndLastArg m = grind (arith, nat_tests)
-whole_is KeyWithTwoArgTriples m = grind (arith, nat_tests)
+whole_is pattern m = grind (arith, nat_tests)
 
 -- keys alone are pieces of one
 alone : (n place : ℕ) (xs : List (List ℕ)) → n ≤ length xs → map unplaced (keys_alone place (take n xs)) ≡ map tuple_by (first_chunks 1 n xs)
@@ -60,7 +57,4 @@ tuples_are_placed KeyWithTwoArgTriples present complete = grind (arith, nat_test
 
 -- and what they share
 pub shared_is : (pattern : MultiSlotArgPattern) (present : List (List ℕ)) → is_complete pattern (length present) ≡ true → slice_get present (length present - (shape_of pattern).shared) ≡ slice_get (shared_in pattern present) 0
-shared_is KeysOnly present complete = ap (slice_get present) (omega arith) ∙ sym (get_after (length present) present)
-shared_is KeyValuePairs present complete = ap (slice_get present) (omega arith) ∙ sym (get_after (length present) present)
-shared_is KeysAndLastArg present complete = sym (ap (λ some. slice_get (drop (cond some (length present - 1) (length present)) present) 0) complete ∙ get_after (length present - 1) present)
-shared_is KeyWithTwoArgTriples present complete = ap (slice_get present) (omega arith) ∙ sym (get_after (length present) present)
+shared_is pattern present h1 = grind (arith, get_after)

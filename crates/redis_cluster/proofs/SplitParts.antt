@@ -12,7 +12,6 @@ use Rattle.cluster_slots.specs.KeySlot.{key_slot}
 use Rattle.cluster_slots.specs.SlotRoute.{SlotRoute}
 use Rattle.cluster_slots.specs.ArgPattern.{is_complete}
 use Rattle.cluster_slots.specs.declared.arg_pattern.MultiSlotArgPattern.{MultiSlotArgPattern}
-use Rattle.cluster_slots.specs.declared.aggregate_op.AggregateOp.TheVariants.{Min, Sum}
 use Rattle.cluster_slots.proofs.ArgPatterns.{fits_some}
 use Rattle.redis_routing.specs.Command.{Arguments, command_name}
 use Rattle.redis_routing.specs.Names.{Names}
@@ -22,7 +21,6 @@ use Rattle.redis_routing.specs.Registry.{Registered, Registrations}
 use Rattle.redis_routing.specs.MultiKeyNames.{registered_as, split_of}
 use Rattle.redis_routing.specs.Tuples.{shared_in, tuples_in}
 use Rattle.redis_routing.specs.declared.policy.ResponsePolicy.{ResponsePolicy}
-use Rattle.redis_routing.specs.declared.policy.ResponsePolicy.TheVariants.{OneSucceeded, FirstSucceededNonEmptyOrAllEmpty, AllSucceeded, AggregateLogical, Aggregate, CombineArrays, Special, CombineMaps}
 use Rattle.redis_routing.proofs.CommandNames.{words_again}
 use Rattle.redis_routing.specs.Complete.{pattern_by_name, part_by_pattern, part_by_name, routes_by, routes_by_name, multi_slot_routes}
 use Rattle.redis_routing.specs.Parts.{first_appearances, part_of_slot, slot_of, tuples_in_slot, arguments_in_slot}
@@ -32,7 +30,7 @@ use Rattle.redis_routing.proofs.Cover.{count_firsts}
 use Rattle.redis_routing.proofs.Picks.{complete_fits}
 use Rattle.redis_routing.proofs.SelfRouting.{All-first_appearances, all_there, complete_again, present_arguments-part, same_contents, shared_again, tuples_again}
 use Rattle.redis_routing.proofs.SomeRoutes.{some_route}
-use Rattle.redis_cluster.specs.MultiKey.{KeyTuple, MultiKey, ReplyForm, list, count, okay, command_with, form_by_policy, is_whole, multi_key, part_of, shape_of, slots_in, tuples_by, tuples_of_slot}
+use Rattle.redis_cluster.specs.MultiKey.{KeyTuple, MultiKey, ReplyForm, command_with, form_by_policy, is_whole, multi_key, part_of, shape_of, slots_in, tuples_by, tuples_of_slot}
 use Rattle.redis_cluster.specs.PlacedTuples.{tuples_of, unplaced}
 use Rattle.redis_cluster.proofs.Constructors.{same_some}
 use Rattle.redis_cluster.proofs.Shapes.{whole_is, tuples_are_placed, shared_is}
@@ -167,13 +165,7 @@ pub record AreRoutesOf (command : MultiKey) (routes : List (SlotRoute × List �
 
 -- each of some things has a number that stands among theirs
 listed : {X : Type 0} (number : X → ℕ) (xs : List X) → All (λ x. list_any (nat_eq (number x)) (map number xs) ≡ true) xs
-listed number xs k d inside =
-    let n = number (get_or xs k d) in
-    let swapped : (λ x. nat_eq n (number x)) ≡ (λ x. nat_eq (number x) n) = fun_ext (λ x. same_test n (number x)) in
-    list_any-map (nat_eq n) number xs ∙ ap (λ test. list_any test xs) swapped ∙ all_there number xs k d inside
-  where
-    same_test : (a b : ℕ) → nat_eq a b ≡ nat_eq b a
-    same_test a b = grind (arith, nat_tests)
+listed number xs k d inside = grind (arith, common_steps, fun_ext, list_any-map, all_there, nat_tests)
 
 -- The slots of a command: each is that of a key, none stands twice, and that of each key stands once.
 module _ (command : MultiKey) where
@@ -231,15 +223,7 @@ routes_made names args pattern command made = grind (arith, common_steps)
 
 -- a policy that joins the replies to parts has a form of the reply
 pub form_of_joining : (policy : ResponsePolicy) → joins_parts policy ≡ true → (form : ReplyForm) × (form_by_policy policy ≡ Some form)
-form_of_joining OneSucceeded joins = absurd (cc joins)
-form_of_joining FirstSucceededNonEmptyOrAllEmpty joins = absurd (cc joins)
-form_of_joining AllSucceeded joins = (okay, refl)
-form_of_joining (AggregateLogical op) joins = absurd (cc joins)
-form_of_joining (Aggregate Min) joins = absurd (cc joins)
-form_of_joining (Aggregate Sum) joins = (count, refl)
-form_of_joining CombineArrays joins = (list, refl)
-form_of_joining Special joins = absurd (cc joins)
-form_of_joining CombineMaps joins = absurd (cc joins)
+form_of_joining policy h1 = grind (arith)
 
 -- a command that has routes, and whose policy joins the replies to its parts
 module _ (names : Names) (args : Arguments) (routes : List (SlotRoute × List ℕ)) (policy : ResponsePolicy) (policy_is : policy_by_name names.registered (command_name args) ≡ Some policy) (joins : joins_parts policy ≡ true) where
@@ -282,8 +266,4 @@ command_of_routes names args routes (policy, policy_is, joins) routed =
 
 -- without routes there is no command
 pub no_command : (names : Names) (args : Arguments) → multi_slot_routes names args ≡ None → multi_key names.registered args ≡ None
-no_command names args none = there (multi_key names.registered args) refl
-  where
-    there : (command : Option MultiKey) → multi_key names.registered args ≡ command → multi_key names.registered args ≡ None
-    there None is = is
-    there (Some command) is = let made = is_made names.registered args command is in absurd (cc (none, routes_made names args made.0 command made.1))
+no_command names args none = grind (arith, is_made, routes_made)

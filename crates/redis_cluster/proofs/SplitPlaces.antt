@@ -100,10 +100,7 @@ tuples_count KeyWithTwoArgTriples present even = count_triples 0 present even
 
 -- the places after the tuples of complete arguments
 shared_after : (pattern : MultiSlotArgPattern) (m : ℕ) → is_complete pattern m ≡ true → range_with_len (tuple_args_count pattern m) (m - tuple_args_count pattern m) ≡ shared_places pattern (tuple_args_count pattern m)
-shared_after KeysOnly m complete = let none : m - m ≡ 0 = omega arith in ap (range_with_len m) none
-shared_after KeyValuePairs m complete = let none : m - m ≡ 0 = omega arith in ap (range_with_len m) none
-shared_after KeysAndLastArg m complete = let one : m - tuple_args_count KeysAndLastArg m ≡ 1 = grind (arith, nat_tests) in ap (range_with_len (tuple_args_count KeysAndLastArg m)) one
-shared_after KeyWithTwoArgTriples m complete = let none : m - m ≡ 0 = omega arith in ap (range_with_len m) none
+shared_after pattern m h1 = grind (arith, nat_tests)
 
 module _ (pattern : MultiSlotArgPattern) (present : List (List ℕ)) (command : MultiKey) (made : HasTuples pattern present command) where
   own_is : tuple_args_count pattern (length present) ≡ length command.tuples * width_of pattern

@@ -25,7 +25,6 @@ use Rattle.redis_cluster.specs.Tries.{tries_with, SentInTurn}
 use Rattle.redis_cluster.specs.declared.fault.DriveFault.{DriveFault}
 use Rattle.redis_cluster.specs.declared.fault.DriveFault.TheVariants as early
 use Rattle.redis_cluster.specs.declared.fault.PlanFault.{PlanFault}
-use Rattle.redis_cluster.specs.declared.fault.PlanFault.TheVariants as plan
 use Rattle.redis_cluster.proofs.Ended.{drivable, tried_whole, cut_short, AreEnded}
 use Rattle.redis_cluster.proofs.Laws.{tried_once, tried_none}
 use Rattle.redis_cluster.proofs.Wider.{cut_by}
@@ -72,9 +71,7 @@ delivered_once IsNode r old new d = record { routes = d.routes; command = d.comm
 
 -- a command that has no plan has a fault that comes before the first send
 pub early_plan : (r : Request) (fault : PlanFault) → IsPlanFault r.map r.names r.arguments fault → IsCauseBeforeSending r (fault_of_plan fault)
-early_plan r plan.NotMultiKey is = is
-early_plan r (plan.NotCovered slot) is = is
-early_plan r plan.Memory is = tt
+early_plan r fault h1 = grind (arith)
 
 module _ {C : Type 0} (step : Step C) (r : Request) (order : List ℕ) (registered : Registrations) (old new : State C) (plan : Plan) (command : MultiKey) (is : IsPlanFor r order registered plan command) (names : NamesOnce (length plan.split.routes) order) where
   abbrev IsNode : SlotRoute → Address → Type 0

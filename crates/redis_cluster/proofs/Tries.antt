@@ -1,5 +1,5 @@
 -- What is tried for the routes of a plan, one after the other.
-use Rattle.std.proofs.Common.{◌≡◌, ◌<◌, ℕ, zero, suc, ◌+◌, List, [], ◌∷◌, ◌++◌, Option, None, Some, Bool, false, All, refl, sym, ap, ◌∙◌, arith, subst, length, get_or, take}
+use Rattle.std.proofs.Common.{◌≡◌, ◌<◌, ℕ, zero, suc, ◌+◌, List, [], ◌∷◌, ◌++◌, Option, None, Some, Bool, false, All, refl, sym, ap, arith, subst, length, get_or, take}
 use Rattle.std.specs.Prelude.{slice_get, nat_eq, ◌↔◌}
 use Rattle.std.proofs.lemmas.List.Elements.{All-head, All-tail}
 use Rattle.std.proofs.lemmas.Grind.{common_steps}

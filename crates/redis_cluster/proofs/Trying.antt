@@ -150,17 +150,7 @@ module _ (try : Try) (old mid new : List Entry) (retry : Attempt) (node : Addres
 
   -- after a redirect that is followed
   pub redirects : (r : Redirect) (next : Attempt) → new ≡ mid ++ entry node try.part (redirected r) ∷ [] → FollowsRedirect retry next r → IsTrying try old new next
-  redirects r next e follows =
-      let s : Entry = entry node try.part (redirected r) in
-      record {
-        attempts = h.attempts ++ s ∷ [];
-        grew = grown (redirected r) e;
-        begun = more (redirected r);
-        target = follows.0.target ∙ sym (ap (next_place try.places (refusals (h.attempts ++ s ∷ []))) (last (redirected r)));
-        named = subst IsSome (sym follows.0.target) (search rules);
-        fallback = follows.1 ∙ h.fallback ∙ ap (λ k. drop (k + 1) try.places) (let f : refusals (h.attempts ++ s ∷ []) ≡ refusals h.attempts + 0 = refusals_push h.attempts s in omega arith);
-        left = omega (arith, length_push h.attempts s, h.left, follows.0.counted);
-      }
+  redirects r next e follows = grind (arith, common_steps, grown (redirected r) e, more (redirected r), last (redirected r), refusals_push, length_push)
 
   -- after a refusal with a target left
   pub refuses : (error : ErrorParts) (next : Attempt) → new ≡ mid ++ entry node try.part (refused error) ∷ [] → FallsBack retry next → IsTrying try old new next

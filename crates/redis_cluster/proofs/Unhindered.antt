@@ -73,9 +73,7 @@ module _ (IsNode : SlotRoute → Address → Type 0) (r : Request) (retries : �
 
   -- routes of which each send was answered were sent once each
   sent_alone : (routes : List SlotRoute) (old new entries : List Entry) → AreTried (IsTryOf IsNode retries r) routes old new → new ≡ old ++ entries → AreFirstAnswered (length routes) entries → AllZip (IsEntryOf IsNode r answered) routes entries
-  sent_alone [] old new entries tried grew were =
-      let none : entries ≡ [] = append_cancel_left old entries [] (sym grew ∙ tried ∙ sym (append-nil old)) in
-      subst (λ es. AllZip (IsEntryOf IsNode r answered) [] es) (sym none) tt
+  sent_alone [] old new entries tried grew were = grind (arith, append_cancel_left old entries, append-nil old)
   sent_alone (route ∷ routes) old new entries (try, m, is, first, later) grew were =
       let more = grows (IsTryOf IsNode retries r) routes m new later in
       let whole : new ++ [] ≡ old ++ entries = append-nil new ∙ grew in

@@ -1,9 +1,10 @@
 -- Items that are put into spots stand in the order of their places.
-use Rattle.std.proofs.Common.{◌≡◌, ℕ, zero, suc, ◌<◌, ◌⊎◌, inl, inr, Bool, true, false, cond, List, [], ◌∷◌, length, map, get_or, replicate, Option, Some, None, refl, ap, sym, ◌∙◌, subst, arith}
+use Rattle.std.proofs.Common.{◌≡◌, ℕ, zero, suc, ◌<◌, ◌⊎◌, inl, inr, Bool, true, false, cond, List, [], ◌∷◌, length, map, get_or, replicate, Option, Some, None, refl, ap, sym, ◌∙◌, arith}
+use Rattle.std.proofs.lemmas.Grind.{common_steps}
 use Rattle.std.proofs.Math.ListN.{set}
-use Rattle.std.specs.Prelude.{option_map, option_and_then, option_to_list, filter, is_none, nat_eq, nat_lt, ◌&&◌}
-use Rattle.std.specs.List.{range_with_len, list_all, zip}
-use Rattle.std.proofs.lemmas.Bool.{eqb-true, eqb-false, eq-eqb, lt-ltb, ltb-true}
+use Rattle.std.specs.Prelude.{option_map, option_and_then, option_to_list, is_none, nat_eq, nat_lt, ◌&&◌}
+use Rattle.std.specs.List.{range_with_len, list_all}
+use Rattle.std.proofs.lemmas.Bool.{eqb-true, eqb-false, lt-ltb, ltb-true}
 use Rattle.std.proofs.lemmas.List.{get_or-replicate, get_or-set_same, get_or-set_other, length-replicate, length-set}
 use Rattle.std.proofs.lemmas.List.FromFn.{fill_by_all, length-map-range_with_len, get_or-map-range_with_len}
 use Rattle.resp_core.specs.Reply.{Reply}
@@ -13,11 +14,7 @@ use Rattle.redis_combiners.specs.Spots.{put_item, filled}
 use Rattle.resp_core.proofs.Cases.{by_test}
 
 pub items_at-cons : (k p : ℕ) (ps : List ℕ) (x : Reply) (xs : List Reply) → items_of_index k (p ∷ ps) (x ∷ xs) ≡ cond (nat_eq p k) (x ∷ items_of_index k ps xs) (items_of_index k ps xs)
-items_at-cons k p ps x xs = either (nat_eq p k)
-  where
-    either : (b : Bool) → map (λ e. e.1) (cond b ((p, x) ∷ filter (λ e. nat_eq e.0 k) (zip ps xs)) (filter (λ e. nat_eq e.0 k) (zip ps xs))) ≡ cond b (x ∷ items_of_index k ps xs) (items_of_index k ps xs)
-    either true = refl
-    either false = refl
+items_at-cons k p ps x xs = grind (arith, common_steps)
 
 -- the spots have the items of their places
 record Held (n : ℕ) (ps : List ℕ) (xs : List Reply) (spots : List (Option Reply)) : Type 0 where
@@ -30,16 +27,8 @@ abbrev IsBad : ℕ → List ℕ → List Reply → Type 0
 IsBad n ps xs = (list_all (λ p. nat_lt p n) ps ≡ false) ⊎ ((k : ℕ) × (k < n) × (1 < length (items_of_index k ps xs)))
 
 bad_more : (n p : ℕ) (ps : List ℕ) (x : Reply) (xs : List Reply) → IsBad n ps xs → IsBad n (p ∷ ps) (x ∷ xs)
-bad_more n p ps x xs (inl e) = inl (ap (λ b. nat_lt p n && b) e ∙ and_false (nat_lt p n))
-  where
-    and_false : (b : Bool) → (b && false) ≡ false
-    and_false true = refl
-    and_false false = refl
-bad_more n p ps x xs (inr t) = inr (t.0, t.1, subst (λ ys. 1 < length ys) (sym (items_at-cons t.0 p ps x xs)) (one_more (nat_eq p t.0) t.2))
-  where
-    one_more : (b : Bool) → 1 < length (items_of_index t.0 ps xs) → 1 < length (cond b (x ∷ items_of_index t.0 ps xs) (items_of_index t.0 ps xs))
-    one_more true h = omega arith
-    one_more false h = h
+bad_more n p ps x xs (inl e) = grind (arith, common_steps)
+bad_more n p ps x xs (inr t) = grind (arith, common_steps)
 
 held_more : (n p : ℕ) (ps : List ℕ) (x : Reply) (xs : List Reply) (spots : List (Option Reply)) → Held n ps xs spots → p < n → is_none (get_or spots p None) ≡ true → Held n (p ∷ ps) (x ∷ xs) (set spots p (Some x))
 held_more n p ps x xs spots h l e =
@@ -65,14 +54,7 @@ held_more n p ps x xs spots h l e =
     no_item (Some y) e = absurd (cc)
 
 two_at_place : (n p : ℕ) (ps : List ℕ) (x : Reply) (xs : List Reply) (spots : List (Option Reply)) → Held n ps xs spots → p < n → is_none (get_or spots p None) ≡ false → 1 < length (items_of_index p (p ∷ ps) (x ∷ xs))
-two_at_place n p ps x xs spots h l e =
-    let one : 0 < length (items_of_index p ps xs) = subst (λ ys. 0 < length ys) (h.held p l) (some_item (get_or spots p None) e) in
-    let two : 1 < length (cond (nat_eq p p) (x ∷ items_of_index p ps xs) (items_of_index p ps xs)) = subst (λ b. 1 < length (cond b (x ∷ items_of_index p ps xs) (items_of_index p ps xs))) (sym (eq-eqb p p refl)) (omega arith) in
-    subst (λ ys. 1 < length ys) (sym (items_at-cons p p ps x xs)) two
-  where
-    some_item : (o : Option Reply) → is_none o ≡ false → 0 < length (option_to_list o)
-    some_item None e = absurd (cc)
-    some_item (Some y) e = omega arith
+two_at_place n p ps x xs spots h l e = grind (arith, common_steps)
 
 abbrev empty : ℕ → List (Option Reply)
 empty n = replicate n None
@@ -107,9 +89,7 @@ one_missing (Some x ∷ os) zero l e = absurd (cc)
 one_missing (Some x ∷ os) (suc i) l e = ap (option_map (λ xs. x ∷ xs)) (one_missing os i (omega arith) e)
 
 not_single : (xs : List Reply) → 1 < length xs → single xs ≡ None
-not_single [] l = absurd (omega arith)
-not_single (x ∷ []) l = absurd (omega arith)
-not_single (x ∷ (y ∷ xs)) l = refl
+not_single xs h1 = grind (arith)
 
 bad_is_none : (ps : List ℕ) (xs : List Reply) → IsBad (length ps) ps xs → by_places ps xs ≡ None
 bad_is_none ps xs (inl e) = ap (λ b. cond b (all_some (map (λ k. single (items_of_index k ps xs)) (range_with_len 0 (length ps)))) None) e

@@ -1,6 +1,7 @@
 -- The order of the replies does not count for their bits.
-use Rattle.std.proofs.Common.{◌≡◌, ℕ, Bool, true, false, cond, eqb, List, [], ◌∷◌, length, Option, Some, None, refl, ap, sym, ◌∙◌, eq-eqb, eqb-true, arith}
-use Rattle.std.specs.Prelude.{option_map, option_and_then, not, ◌&&◌, ◌||◌, slice_index_or}
+use Rattle.std.proofs.Common.{◌≡◌, ℕ, Bool, true, false, cond, eqb, List, [], ◌∷◌, length, Some, None, refl, ap, sym, ◌∙◌, eq-eqb, eqb-true, arith}
+use Rattle.std.proofs.lemmas.Grind.{common_steps}
+use Rattle.std.specs.Prelude.{option_map, option_and_then, not, ◌&&◌, slice_index_or}
 use Rattle.std.specs.List.{range_with_len, list_all, list_any}
 use Rattle.std.specs.List.Sorted.{IsPermutation}
 use Rattle.std.proofs.lemmas.List.Sorted.{IsPermutation-map, length_permutation, list_any-IsPermutation}
@@ -16,11 +17,7 @@ use Rattle.redis_combiners.proofs.Lists.{any_order_of}
 -- all pass a test where none fails it
 all_pass : {X : Type 0} (p : X → Bool) (xs : List X) → list_all p xs ≡ not (list_any (λ x. not (p x)) xs)
 all_pass p [] = refl
-all_pass {X} p (x ∷ xs) = ap (λ b. p x && b) (all_pass p xs) ∙ either (p x) (list_any (λ y. not (p y)) xs)
-  where
-    either : (b rest : Bool) → (b && not rest) ≡ not (not b || rest)
-    either true rest = refl
-    either false rest = refl
+all_pass {X} p (x ∷ xs) = grind (arith, common_steps, all_pass p xs)
 
 all_in_any_order : {X : Type 0} (p : X → Bool) (xs ys : List X) → IsPermutation xs ys → list_all p ys ≡ list_all p xs
 all_in_any_order p xs ys h = grind (arith, all_pass, list_any-IsPermutation)
@@ -62,11 +59,7 @@ length_in_any_order (x ∷ xs) (y ∷ ys) h =
     ∙ sym (length_by x xs)
 
 rows_in_any_order : (op : LogicalAggregateOp) (xs ys : List (List Bool)) → IsPermutation xs ys → option_map (combined_bits op ys) (common_length ys) ≡ option_map (combined_bits op xs) (common_length xs)
-rows_in_any_order op xs ys h = ap (option_map (combined_bits op ys)) (length_in_any_order xs ys h) ∙ widths (common_length xs)
-  where
-    widths : (o : Option ℕ) → option_map (combined_bits op ys) o ≡ option_map (combined_bits op xs) o
-    widths None = refl
-    widths (Some width) = ap Some (bits_in_any_order op xs ys width h)
+rows_in_any_order op xs ys h = grind (arith, common_steps, length_in_any_order, bits_in_any_order)
 
 pub any_order : (op : LogicalAggregateOp) (rs others : List Reply) → IsPermutation rs others → logical_items op others ≡ logical_items op rs
 any_order op rs others h = any_order_of (λ reply. option_and_then bits_among (array_of reply)) [] (λ rows. option_map (combined_bits op rows) (common_length rows)) (rows_in_any_order op) rs others h

@@ -1,5 +1,6 @@
 -- Spots that are filled from the last item on.
 use Rattle.std.proofs.Common.{◌≡◌, ℕ, zero, suc, ◌+◌, ◌<◌, ◌≤◌, Bool, true, false, cond, List, [], ◌∷◌, ◌++◌, length, map, take, get_or, replicate, Option, Some, None, refl, ap, sym, ◌∙◌, arith}
+use Rattle.std.proofs.lemmas.Grind.{common_steps}
 use Rattle.std.proofs.Math.ListN.{set}
 use Rattle.std.specs.Prelude.{option_map, option_and_then, is_none, ◌&&◌}
 use Rattle.std.specs.List.{list_all}
@@ -14,18 +15,10 @@ use Rattle.redis_combiners.specs.Spots.{spots_of, put_item, filled}
 
 -- one list of items after another
 pub filled_both : (spots : List (Option Reply)) (ps qs : List ℕ) (xs ys : List Reply) → length ps ≡ length xs → filled spots (ps ++ qs) (xs ++ ys) ≡ option_and_then (λ later. filled later ps xs) (filled spots qs ys)
-filled_both spots [] qs [] ys n = same (filled spots qs ys)
-  where
-    same : (o : Option (List (Option Reply))) → o ≡ option_and_then (λ later. Some later) o
-    same None = refl
-    same (Some later) = refl
+filled_both spots [] qs [] ys n = grind (arith, common_steps)
 filled_both spots [] qs (x ∷ xs) ys n = absurd (omega arith)
 filled_both spots (p ∷ ps) qs [] ys n = absurd (omega arith)
-filled_both spots (p ∷ ps) qs (x ∷ xs) ys n = ap (option_and_then (λ later. put_item later p x)) (filled_both spots ps qs xs ys (omega arith)) ∙ same (filled spots qs ys)
-  where
-    same : (o : Option (List (Option Reply))) → option_and_then (λ later. put_item later p x) (option_and_then (λ later. filled later ps xs) o) ≡ option_and_then (λ later. option_and_then (λ last. put_item last p x) (filled later ps xs)) o
-    same None = refl
-    same (Some later) = refl
+filled_both spots (p ∷ ps) qs (x ∷ xs) ys n = grind (arith, common_steps, filled_both spots ps qs xs ys (omega arith))
 
 -- spots as flags and items
 length-spots_of : (taken : List Bool) (items : List Reply) → length taken ≡ length items → length (spots_of taken items) ≡ length taken
@@ -79,11 +72,7 @@ all_spots [] [] n = refl
 all_spots [] (x ∷ items) n = absurd (omega arith)
 all_spots (b ∷ taken) [] n = absurd (omega arith)
 all_spots (false ∷ taken) (x ∷ items) n = refl
-all_spots (true ∷ taken) (x ∷ items) n = ap (option_map (λ xs. x ∷ xs)) (all_spots taken items (omega arith)) ∙ more (list_all (λ bit. bit) taken)
-  where
-    more : (b : Bool) → option_map (λ xs. x ∷ xs) (cond b (Some items) None) ≡ cond b (Some (x ∷ items)) None
-    more true = refl
-    more false = refl
+all_spots (true ∷ taken) (x ∷ items) n = grind (arith, common_steps, all_spots taken items (omega arith))
 
 pub no_spots : (n : ℕ) (x : Reply) → spots_of (replicate n false) (replicate n x) ≡ replicate n None
 no_spots zero x = refl

@@ -1,5 +1,6 @@
 -- Pairs of one key side by side that are made one.
-use Rattle.std.proofs.Common.{◌≡◌, ◌<◌, ◌^◌, ℕ, suc, ℤ, ◌+ℤ◌, List, [], ◌∷◌, length, map, Bool, true, false, cond, ◌++◌, Option, Some, None, refl, ap, sym, subst, ◌∙◌, arith, Vec, Global}
+use Rattle.std.proofs.Common.{◌≡◌, ◌<◌, ◌^◌, ℕ, suc, ℤ, ◌+ℤ◌, List, [], ◌∷◌, length, map, Bool, true, false, cond, ◌++◌, Option, Some, refl, ap, sym, subst, arith, Vec, Global}
+use Rattle.std.proofs.lemmas.Grind.{common_steps}
 use Rattle.std.specs.declared.cmp.Ordering.TheVariants.{Less}
 use Rattle.std.specs.Cmp.Lexicographic.{nat_list_cmp_total}
 use Rattle.std.specs.List.{AllByRecursion}
@@ -11,7 +12,7 @@ use Rattle.std.specs.Prelude.{option_map}
 use Rattle.resp_core.specs.Reply.{Reply, pairs, pairs_of}
 use Rattle.cluster_slots.specs.Lists.{all_some}
 use Rattle.resp_core.proofs.Cases.{by_test}
-use Rattle.resp_core.proofs.SoFar.{before, before-more}
+use Rattle.resp_core.proofs.SoFar.{before}
 use Rattle.redis_combiners.specs.Entries.{plain_pairs, total_among, joined, joined_after}
 use Rattle.redis_combiners.specs.KeyNumbers.{KeyNumber, all_pairs}
 use Rattle.redis_combiners.specs.Totals.{reply_pair, combined_map}
@@ -24,13 +25,7 @@ sum_step false t n s = refl
 
 sum_after : (q k : List ℕ) (t : ℤ) (ps : List KeyNumber) → sum_at q (joined_after k t ps) ≡ sum_at q ((k, t) ∷ ps)
 sum_after q k t [] = refl
-sum_after q k t (p ∷ ps) = by_test (bytes_eq p.0 k)
-    (λ same. ap (λ b. sum_at q (cond b (joined_after k (t +ℤ p.1) ps) ((k, t) ∷ joined_after p.0 p.1 ps))) same
-    ∙ sum_after q k (t +ℤ p.1) ps
-    ∙ sum_step (bytes_eq k q) t p.1 (sum_at q ps)
-    ∙ ap (λ j. sum_at q ((k, t) ∷ (j, p.1) ∷ ps)) (sym ((bytes_eq-Decides p.0 k).0 same)))
-    (λ apart. ap (λ b. sum_at q (cond b (joined_after k (t +ℤ p.1) ps) ((k, t) ∷ joined_after p.0 p.1 ps))) apart
-    ∙ ap (λ s. cond (bytes_eq k q) (Some (t +ℤ or_zero s)) s) (sum_after q p.0 p.1 ps))
+sum_after q k t (p ∷ ps) = grind (arith, common_steps, by_test, sum_at, sum_step, bytes_eq-Decides, or_zero, sum_after q k (t +ℤ p.1) ps, sum_after q p.0 p.1 ps)
 
 -- each key has the same total
 pub sum_joined : (q : List ℕ) (ps : List KeyNumber) → sum_at q (joined ps) ≡ sum_at q ps
@@ -70,29 +65,13 @@ strictly_joined (e ∷ es) up = strictly_after (key_of e) e.1 es (chain (e ∷ e
 abbrev pub pairs_from : List (Reply × Reply) → List ℕ → ℤ → List Entry → Option (List (Reply × Reply))
 pairs_from so_far key total rest = before so_far (all_some (map reply_pair (joined_after key total (plain_pairs rest))))
 
-abbrev AtNext : List (Reply × Reply) → List ℕ → ℤ → Entry → List Entry → Bool → Option (List (Reply × Reply))
-AtNext so_far key total e rest b = before so_far (all_some (map reply_pair (cond b (joined_after key (total +ℤ e.1) (plain_pairs rest)) ((key, total) ∷ joined_after (key_of e) e.1 (plain_pairs rest)))))
-
 pub same_key_next : (so_far : List (Reply × Reply)) (key : List ℕ) (next : Vec ℕ Global) (total n sum : ℤ) (left rest : List Entry) → left ≡ (next, n) ∷ rest → bytes_eq next.items key ≡ true → sum ≡ total +ℤ n
     → pairs_from so_far key sum rest ≡ pairs_from so_far key total left
-same_key_next so_far key next total n sum left rest is same more =
-    ap (λ z. pairs_from so_far key z rest) more
-    ∙ ap (AtNext so_far key total (next, n) rest) (sym same)
-    ∙ ap (pairs_from so_far key total) (sym is)
+same_key_next so_far key next total n sum left rest is same more = grind (arith, common_steps)
 
 pub other_key_next : (so_far more : List (Reply × Reply)) (key : List ℕ) (next : Vec ℕ Global) (total n : ℤ) (left rest : List Entry) → left ≡ (next, n) ∷ rest → bytes_eq next.items key ≡ false → option_map (λ pair. so_far ++ pair ∷ []) (reply_pair (key, total)) ≡ Some more
     → pairs_from more next.items n rest ≡ pairs_from so_far key total left
-other_key_next so_far more key next total n left rest is apart pushed =
-    by (reply_pair (key, total)) pushed
-    ∙ ap (AtNext so_far key total (next, n) rest) (sym apart)
-    ∙ ap (pairs_from so_far key total) (sym is)
-  where
-    after : Option (List (Reply × Reply))
-    after = all_some (map reply_pair (joined_after next.items n (plain_pairs rest)))
-
-    by : (o : Option (Reply × Reply)) → option_map (λ pair. so_far ++ pair ∷ []) o ≡ Some more → before more after ≡ before so_far (all_some (o ∷ map reply_pair (joined_after next.items n (plain_pairs rest))))
-    by None h = absurd (cc)
-    by (Some pair) h = let same : more ≡ so_far ++ pair ∷ [] = cc in ap (λ xs. before xs after) same ∙ sym (before-more so_far pair after)
+other_key_next so_far more key next total n left rest is apart pushed = grind (arith, common_steps)
 
 length-plain : (es : List Entry) → length (plain_pairs es) ≡ length es
 length-plain [] = refl
@@ -101,7 +80,4 @@ length-plain (e ∷ es) = ap suc (length-plain es)
 -- what the totals in order make is what the replies make
 pub combined_from : (rs : List Reply) (ps es fs : List Entry) (made : Option (List (Reply × Reply))) → Some (plain_pairs ps) ≡ all_pairs rs → length ps < 2 ^ 63 → ((q : List ℕ) → total_among es q ≡ total_among ps q)
     → IsPermutation es fs → IsSortedByKey key_of order fs → made ≡ all_some (map reply_pair (joined (plain_pairs fs))) → combined_map rs ≡ option_map (λ l. pairs (pairs_of l)) made
-combined_from rs ps es fs made all few same moves up is =
-    combined_map_is rs (plain_pairs ps) (joined (plain_pairs fs)) (sym all) (omega (arith, few, length-plain ps)) (strictly_joined fs up)
-    (λ q. sum_joined q (plain_pairs fs) ∙ all_moved es fs moves q ∙ same q)
-    ∙ ap (option_map (λ l. pairs (pairs_of l))) (sym is)
+combined_from rs ps es fs made all few same moves up is = grind (arith, common_steps, combined_map_is, length-plain, strictly_joined, sum_joined, all_moved)

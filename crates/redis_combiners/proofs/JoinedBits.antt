@@ -1,13 +1,13 @@
 -- Rows of bits that are joined one after the other.
-use Rattle.std.proofs.Common.{◌≡◌, ℕ, zero, suc, ◌+◌, ◌<◌, ◌≤◌, Bool, true, false, cond, eqb, List, [], ◌∷◌, ◌++◌, length, map, drop, get_or, Option, Some, None, is_some, pos, negsuc, refl, ap, sym, ◌∙◌, arith, append_assoc}
+use Rattle.std.proofs.Common.{◌≡◌, ℕ, zero, suc, ◌+◌, ◌<◌, ◌≤◌, Bool, true, false, cond, eqb, List, [], ◌∷◌, ◌++◌, length, map, drop, get_or, Option, Some, None, is_some, refl, ap, sym, ◌∙◌, arith, append_assoc}
 use Rattle.std.proofs.Math.ListN.{set}
-use Rattle.std.specs.Prelude.{option_map, option_and_then, ◌&&◌}
+use Rattle.std.specs.Prelude.{option_map, option_and_then}
 use Rattle.std.specs.List.{range_with_len, list_all}
 use Rattle.std.proofs.lemmas.Bool.{eq-eqb, eqb-true, ne_eqb}
 use Rattle.std.proofs.lemmas.List.{append-nil, drop_all, drop_more, length_push, length-map, map_push, set_at, get_or-map, get_or_read}
 use Rattle.std.proofs.lemmas.List.FromFn.{fill_by_all}
 use Rattle.std.proofs.lemmas.Grind.{common_steps}
-use Rattle.resp_core.specs.Reply.{Reply, nil, int, bulk, array, simple, okay, pairs, int_of, array_of}
+use Rattle.resp_core.specs.Reply.{Reply, int_of, array_of}
 use Rattle.cluster_slots.specs.Lists.{all_some}
 use Rattle.cluster_slots.specs.declared.aggregate_op.LogicalAggregateOp.{LogicalAggregateOp}
 use Rattle.cluster_slots.specs.declared.aggregate_op.LogicalAggregateOp.TheVariants.{And, Or}
@@ -33,44 +33,17 @@ bits_of_ints (true ∷ bits) = ap (option_map (λ bs. true ∷ bs)) (bits_of_int
 bits_of_ints (false ∷ bits) = ap (option_map (λ bs. false ∷ bs)) (bits_of_ints bits)
 
 int_of_bit : (x : Reply) (b : Bool) → bit_in x ≡ Some b → as_int b ≡ x
-int_of_bit nil b e = absurd (cc)
-int_of_bit (int (pos zero)) b e = let is : false ≡ b = cc in ap as_int (sym is)
-int_of_bit (int (pos (suc zero))) b e = let is : true ≡ b = cc in ap as_int (sym is)
-int_of_bit (int (pos (suc (suc n)))) b e = absurd (cc)
-int_of_bit (int (negsuc n)) b e = absurd (cc)
-int_of_bit (bulk bytes) b e = absurd (cc)
-int_of_bit (array items) b e = absurd (cc)
-int_of_bit (simple text) b e = absurd (cc)
-int_of_bit okay b e = absurd (cc)
-int_of_bit (pairs items) b e = absurd (cc)
+int_of_bit x b h1 = grind (arith)
 
 row_of_bits : (xs : List Reply) (bits : List Bool) → bits_among xs ≡ Some bits → map as_int bits ≡ xs
-row_of_bits [] bits e = none bits (cc)
-  where
-    none : (bs : List Bool) → [] ≡ bs → map as_int bs ≡ []
-    none bs h = ap (map as_int) (sym h)
+row_of_bits [] bits e = grind (arith, common_steps)
 row_of_bits (x ∷ xs) bits e =
     let f : FirstAndOthers (bit_in x) (map bit_in xs) bits = first_and_others (bit_in x) (map bit_in xs) bits e in
     ap (map as_int) f.is ∙ ap (λ y. y ∷ map as_int f.others) (int_of_bit x f.first f.there) ∙ ap (λ ys. x ∷ ys) (row_of_bits xs f.others f.others_are)
 
 -- what the items of two rows make, one place on
 next_place : (op : LogicalAggregateOp) (x y : Reply) (xs ys : List Reply) (a b : Bool) → bit_in x ≡ Some a → bit_in y ≡ Some b → joined_items op (x ∷ xs) (y ∷ ys) ≡ option_map (λ bits. joined_bit op a b ∷ bits) (joined_items op xs ys)
-next_place op x y xs ys a b e f =
-    ap (λ o. option_and_then (λ bits. option_map (joined_bits op bits) (bits_among (y ∷ ys))) (all_some (o ∷ map bit_in xs))) e
-    ∙ ap (λ o. option_and_then (λ bits. option_map (joined_bits op bits) (all_some (o ∷ map bit_in ys))) (all_some (Some a ∷ map bit_in xs))) f
-    ∙ more (bits_among xs) (bits_among ys)
-  where
-    more : (o p : Option (List Bool)) → option_and_then (λ bits. option_map (joined_bits op bits) (option_map (λ bs. b ∷ bs) p)) (option_map (λ bs. a ∷ bs) o) ≡ option_map (λ bits. joined_bit op a b ∷ bits) (option_and_then (λ bits. option_map (joined_bits op bits) p) o)
-    more None p = refl
-    more (Some u) None = refl
-    more (Some u) (Some v) = refl
-
-no_other_bit : (op : LogicalAggregateOp) (y : Reply) (xs ys : List Reply) → bit_in y ≡ None → joined_items op xs (y ∷ ys) ≡ None
-no_other_bit op y xs ys e = ap (λ o. option_and_then (λ bits. option_map (joined_bits op bits) (all_some (o ∷ map bit_in ys))) (bits_among xs)) e ∙ none (bits_among xs)
-  where
-    none : (o : Option (List Bool)) → option_and_then (λ bits. option_map (joined_bits op bits) None) o ≡ None
-    none None = refl
-    none (Some u) = refl
+next_place op x y xs ys a b e f = grind (arith, common_steps)
 
 -- a row of which the first places are joined with those of the items
 pub record JoinedSoFar (op : LogicalAggregateOp) (row first items : List Reply) (i : ℕ) : Type 0 where
@@ -147,10 +120,7 @@ map_same f g h [] = refl
 map_same f g h (x ∷ xs) = ap (λ y. y ∷ map f xs) (h x) ∙ ap (λ ys. g x ∷ ys) (map_same f g h xs)
 
 one_bit : (op : LogicalAggregateOp) (x : Bool) → combined_bit op (x ∷ []) ≡ x
-one_bit And true = refl
-one_bit And false = refl
-one_bit Or true = refl
-one_bit Or false = refl
+one_bit op x = grind (arith)
 
 -- two bits and the one that they make are alike to the others
 two_bits : (op : LogicalAggregateOp) (x y : Bool) (bits : List Bool) → combined_bit op (joined_bit op x y ∷ bits) ≡ combined_bit op (x ∷ (y ∷ bits))
@@ -171,18 +141,7 @@ by_columns op rows others width = option_map (combined_bits op rows) (cond (list
 -- what the columns make is what the rows make
 columns_and_rows : (op : LogicalAggregateOp) (a : List Bool) (bs : List (List Bool)) → by_columns op (a ∷ bs) bs (length a) ≡ option_map (map as_int) (joined_rows op a bs)
 columns_and_rows op a [] = ap Some (sym (alone op a))
-columns_and_rows op a (b ∷ bs) = by_test (eqb (length b) (length a))
-    (λ t. ap (λ c. option_map (combined_bits op (a ∷ (b ∷ bs))) (cond (c && list_all (λ row. eqb (length row) (length a)) bs) (Some (length a)) None)) t
-    ∙ same_columns (eqb-true (length b) (length a) t) (cond (list_all (λ row. eqb (length row) (length a)) bs) (Some (length a)) None)
-    ∙ ap (by_columns op (joined_bits op a b ∷ bs) bs) (sym (length-joined op a b (eqb-true (length b) (length a) t)))
-    ∙ columns_and_rows op (joined_bits op a b) bs
-    ∙ ap (λ c. option_map (map as_int) (cond c (joined_rows op (joined_bits op a b) bs) None)) (sym t))
-    (λ f. ap (λ c. option_map (combined_bits op (a ∷ (b ∷ bs))) (cond (c && list_all (λ row. eqb (length row) (length a)) bs) (Some (length a)) None)) f
-    ∙ ap (λ c. option_map (map as_int) (cond c (joined_rows op (joined_bits op a b) bs) None)) (sym f))
-  where
-    same_columns : length b ≡ length a → (o : Option ℕ) → option_map (combined_bits op (a ∷ (b ∷ bs))) o ≡ option_map (combined_bits op (joined_bits op a b ∷ bs)) o
-    same_columns n None = refl
-    same_columns n (Some width) = ap Some (sym (combined_same op a b bs width n))
+columns_and_rows op a (b ∷ bs) = grind (arith, common_steps, by_test, eqb-true, length-joined, combined_same, columns_and_rows op (joined_bits op a b) bs)
 
 first_and_rest : (o : Option (List Bool)) (os : List (Option (List Bool))) → all_some (o ∷ os) ≡ option_and_then (λ a. option_map (λ bs. a ∷ bs) (all_some os)) o
 first_and_rest None os = refl
@@ -216,44 +175,15 @@ only_row op row e = ap (option_map (map as_int)) (whole (bits_among row)) ∙ in
 -- the next reply and its row
 next_row : (op : LogicalAggregateOp) (row : List Reply) (r : Reply) (rs : List Reply)
     → joined_replies op row (r ∷ rs) ≡ option_and_then (λ a. option_and_then (λ b. cond (eqb (length b) (length a)) (option_and_then (joined_rows op (joined_bits op a b)) (all_rows rs)) None) (option_and_then bits_among (array_of r))) (bits_among row)
-next_row op row r rs =
-    ap (λ o. option_and_then (λ a. option_and_then (joined_rows op a) o) (bits_among row)) (first_and_rest (option_and_then bits_among (array_of r)) (map (λ reply. option_and_then bits_among (array_of reply)) rs))
-    ∙ steps (bits_among row) (option_and_then bits_among (array_of r)) (all_rows rs)
-  where
-    either : (b : Bool) → ◌≡◌ {A = Option (List Bool)} None (cond b None None)
-    either true = refl
-    either false = refl
-
-    steps : (o p : Option (List Bool)) (q : Option (List (List Bool)))
-        → option_and_then (λ a. option_and_then (joined_rows op a) (option_and_then (λ b. option_map (λ bs. b ∷ bs) q) p)) o ≡ option_and_then (λ a. option_and_then (λ b. cond (eqb (length b) (length a)) (option_and_then (joined_rows op (joined_bits op a b)) q) None) p) o
-    steps None p q = refl
-    steps (Some a) None q = refl
-    steps (Some a) (Some b) None = either (eqb (length b) (length a))
-    steps (Some a) (Some b) (Some bs) = refl
+next_row op row r rs = grind (arith, common_steps)
 
 bits-length : (xs : List Reply) (a : List Bool) → bits_among xs ≡ Some a → length a ≡ length xs
 bits-length xs a e = all_some_length (map bit_in xs) a e ∙ length-map xs bit_in
 
 pub next_is_longer : (op : LogicalAggregateOp) (row : List Reply) (r : Reply) (items rs : List Reply) → array_of r ≡ Some items → (length items ≡ length row → ⊥) → joined_replies op row (r ∷ rs) ≡ None
-next_is_longer op row r items rs e n = next_row op row r rs
-    ∙ ap (λ o. option_and_then (λ a. option_and_then (λ b. cond (eqb (length b) (length a)) (option_and_then (joined_rows op (joined_bits op a b)) (all_rows rs)) None) (option_and_then bits_among o)) (bits_among row)) e
-    ∙ none (bits_among row) (bits_among items) refl refl
-  where
-    none : (o p : Option (List Bool)) → bits_among row ≡ o → bits_among items ≡ p → option_and_then (λ a. option_and_then (λ b. cond (eqb (length b) (length a)) (option_and_then (joined_rows op (joined_bits op a b)) (all_rows rs)) None) p) o ≡ None
-    none None p f g = refl
-    none (Some a) None f g = refl
-    none (Some a) (Some b) f g = ap (λ c. cond c (option_and_then (joined_rows op (joined_bits op a b)) (all_rows rs)) None) (ne_eqb (length b) (length a) (λ h. n (sym (bits-length items b g) ∙ h ∙ bits-length row a f)))
+next_is_longer op row r items rs e n = grind (arith, common_steps, next_row, ne_eqb, bits-length)
 
 -- the next row joined to the first
 pub next_joined : (op : LogicalAggregateOp) (row new : List Reply) (r : Reply) (items rs : List Reply) → array_of r ≡ Some items → length items ≡ length row → is_some (joined_items op row items) ≡ true → bits_among new ≡ joined_items op row items
     → joined_replies op row (r ∷ rs) ≡ joined_replies op new rs
-next_joined op row new r items rs e n there is = next_row op row r rs
-    ∙ ap (λ o. option_and_then (λ a. option_and_then (λ b. cond (eqb (length b) (length a)) (option_and_then (joined_rows op (joined_bits op a b)) (all_rows rs)) None) (option_and_then bits_among o)) (bits_among row)) e
-    ∙ both (bits_among row) (bits_among items) refl refl there
-    ∙ ap (option_and_then (λ bits. option_and_then (joined_rows op bits) (all_rows rs))) (sym is)
-  where
-    both : (o p : Option (List Bool)) → bits_among row ≡ o → bits_among items ≡ p → is_some (option_and_then (λ bits. option_map (joined_bits op bits) p) o) ≡ true
-        → option_and_then (λ a. option_and_then (λ b. cond (eqb (length b) (length a)) (option_and_then (joined_rows op (joined_bits op a b)) (all_rows rs)) None) p) o ≡ option_and_then (λ bits. option_and_then (joined_rows op bits) (all_rows rs)) (option_and_then (λ bits. option_map (joined_bits op bits) p) o)
-    both None p f g h = absurd (cc)
-    both (Some a) None f g h = absurd (cc)
-    both (Some a) (Some b) f g h = ap (λ c. cond c (option_and_then (joined_rows op (joined_bits op a b)) (all_rows rs)) None) (eq-eqb (length b) (length a) (bits-length items b g ∙ n ∙ sym (bits-length row a f)))
+next_joined op row new r items rs e n there is = grind (arith, common_steps, next_row, is_some, eq-eqb, bits-length)

@@ -1,5 +1,6 @@
 -- The places of keys of a list, tuple by tuple.
-use Rattle.std.proofs.Common.{◌≡◌, ℕ, zero, suc, ◌+◌, ◌-◌, ◌*◌, ◌/◌, ◌%◌, ◌<◌, ◌≤◌, List, [], ◌∷◌, length, map, drop, Some, None, refl, ap, sym, ◌∙◌, arith, cond, eqb, slice_index}
+use Rattle.std.proofs.Common.{◌≡◌, ℕ, zero, suc, ◌+◌, ◌-◌, ◌*◌, ◌/◌, ◌%◌, ◌<◌, ◌≤◌, List, [], ◌∷◌, length, map, drop, Some, refl, ap, sym, ◌∙◌, arith, cond, eqb, slice_index}
+use Rattle.std.proofs.lemmas.Grind.{common_steps}
 use Rattle.std.specs.Prelude.{filter}
 use Rattle.std.specs.List.{range_with_len, enumerate_from}
 use Rattle.std.proofs.lemmas.Bool.{eq-eqb, ne_eqb}
@@ -10,7 +11,7 @@ use Rattle.std.proofs.lemmas.Simd.{map-map}
 use Rattle.cluster_slots.specs.ArgPattern.{width_of}
 use Rattle.cluster_slots.specs.declared.arg_pattern.MultiSlotArgPattern.{MultiSlotArgPattern}
 use Rattle.cluster_slots.proofs.ArgPatterns.{some_width}
-use Rattle.redis_combiners.specs.KeyPlaces.{every_nth, tuple_places, own_arguments, places}
+use Rattle.redis_combiners.specs.KeyPlaces.{tuple_places, own_arguments, places}
 
 -- every width-th number, where the first stands at a place of a longer list
 abbrev every_nth_from : ℕ → ℕ → List ℕ → List ℕ
@@ -20,12 +21,7 @@ every_nth_from w at xs = map (λ e. e.1) (filter (λ e. eqb (e.0 % w) 0) (enumer
 skip : (w a j m at : ℕ) (xs : List ℕ) → 0 < j → j + m ≤ w → at ≡ a * w + j → m ≤ length xs → every_nth_from w at xs ≡ every_nth_from w (at + m) (drop m xs)
 skip w a j zero at xs some below is within = ap (λ n. every_nth_from w n xs) (omega arith)
 skip w a j (suc m) at [] some below is within = absurd (omega arith)
-skip w a j (suc m) at (x ∷ xs) some below is within =
-    let rest : j < w = omega arith in
-    let left : at % w ≡ j = ap (λ n. n % w) is ∙ mod-mul-add a w j rest in
-    ap (λ b. map (λ e. e.1) (cond b ((at, x) ∷ filter (λ e. eqb (e.0 % w) 0) (enumerate_from (at + 1) xs)) (filter (λ e. eqb (e.0 % w) 0) (enumerate_from (at + 1) xs)))) (ne_eqb (at % w) 0 (λ e. absurd (omega arith)))
-    ∙ skip w a (j + 1) m (at + 1) xs (omega arith) (omega arith) (omega arith) (omega arith)
-    ∙ ap (λ n. every_nth_from w n (drop m xs)) (omega arith)
+skip w a j (suc m) at (x ∷ xs) some below is within = grind (arith, common_steps, mod-mul-add, ne_eqb, skip w a (j + 1) m (at + 1) xs (omega arith) (omega arith) (omega arith) (omega arith))
 
 -- a list of one function's values over a range, and over a later one
 shifted : (f g : ℕ → ℕ) (a b n : ℕ) → ((i : ℕ) → f (b + i) ≡ g (a + i)) → map f (range_with_len b n) ≡ map g (range_with_len a n)
@@ -60,10 +56,7 @@ abbrev pub heads : ℕ → List ℕ → ℕ → List ℕ
 heads w xs n = map (λ i. slice_index xs (w * i) / w) (range_with_len 0 n)
 
 tuple_places_are : (w : ℕ) (xs : List ℕ) → 0 < w → length xs % w ≡ 0 → tuple_places w xs ≡ Some (heads w xs (length xs / w))
-tuple_places_are w xs some whole =
-    ap (λ b. cond b (Some (map (λ n. n / w) (every_nth w xs))) None) (eq-eqb (length xs % w) 0 whole)
-    ∙ ap (λ ys. Some (map (λ n. n / w) ys)) (ap (λ m. every_nth_from w m xs) (omega arith) ∙ every_nth_is w 0 (length xs / w) xs some (omega (arith, whole)))
-    ∙ ap Some (map-map (λ n. n / w) (λ i. slice_index xs (w * i)) (range_with_len 0 (length xs / w)))
+tuple_places_are w xs some whole = grind (arith, common_steps, eq-eqb (length xs % w) 0 whole, every_nth_is w 0 (length xs / w) xs some (omega (arith, whole)), map-map, slice_index)
 
 pub places_are : (pattern : MultiSlotArgPattern) (list own : List ℕ) (w : ℕ) → w ≡ width_of pattern → Some own ≡ own_arguments pattern list → length own % w ≡ 0 → places pattern list ≡ Some (heads w own (length own / w))
 places_are pattern list own w same is whole = grind (arith, tuple_places_are, some_width)

@@ -1,5 +1,5 @@
 -- What is left to put into spots, reply by reply from the last one on.
-use Rattle.std.proofs.Common.{◌≡◌, ℕ, ◌+◌, ◌-◌, ◌≤◌, Bool, true, false, cond, List, [], ◌∷◌, ◌++◌, length, map, take, drop, replicate, Option, Some, None, refl, ap, sym, ◌∙◌, arith, Global}
+use Rattle.std.proofs.Common.{◌≡◌, ℕ, ◌+◌, ◌-◌, ◌≤◌, Bool, false, List, [], ◌∷◌, ◌++◌, length, map, take, drop, replicate, Option, Some, None, refl, ap, sym, ◌∙◌, arith, Global}
 use Rattle.std.specs.Bool.{then_some}
 use Rattle.std.specs.Prelude.{option_map, option_and_then, Vec}
 use Rattle.std.specs.List.{between, list_all}
@@ -100,15 +100,7 @@ none_left taken sorted places end whole l = grind (arith, common_steps)
 
 -- the order of all items, by the spots
 pub by_spots : (replies : List Reply) (places : List ℕ) → option_map length (all_items replies) ≡ Some (length places) → option_and_then (by_places places) (all_items replies) ≡ option_and_then all_some (whole_of places replies)
-by_spots replies places n = cases (all_items replies) n
-  where
-    cases : (o : Option (List Reply)) → option_map length o ≡ Some (length places) → option_and_then (by_places places) o ≡ option_and_then all_some (option_and_then (filled (replicate (length places) None) places) o)
-    cases None h = refl
-    cases (Some items) h = let long : length items ≡ length places = cc in sym (filled_is places items long)
+by_spots replies places n = grind (arith, common_steps, filled_is)
 
 pub spots_as_items : (taken : List Bool) (sorted : Vec Value Global) → length taken ≡ length (map view sorted.items) → option_map (λ v. map view v.items) (then_some (list_all (λ bit. bit) taken) sorted) ≡ all_some (spots_of taken (map view sorted.items))
-spots_as_items taken sorted n = cases (list_all (λ bit. bit) taken) ∙ sym (all_spots taken (map view sorted.items) n)
-  where
-    cases : (b : Bool) → option_map (λ v. map view v.items) (then_some b sorted) ≡ cond b (Some (map view sorted.items)) None
-    cases true = refl
-    cases false = refl
+spots_as_items taken sorted n = grind (arith, common_steps, all_spots)

@@ -1,6 +1,7 @@
 -- Lists of what may be missing.
 use Rattle.std.proofs.Common.{◌≡◌, ℕ, zero, suc, ◌<◌, List, [], ◌∷◌, length, get_or, map, Option, Some, None, Bool, true, false, cond, refl, ap, sym, ◌∙◌, arith}
-use Rattle.std.specs.Prelude.{option_map, option_and_then, is_none, unwrap_or, ◌||◌}
+use Rattle.std.proofs.lemmas.Grind.{common_steps}
+use Rattle.std.specs.Prelude.{option_map, option_and_then, is_none, unwrap_or}
 use Rattle.std.specs.List.{list_any}
 use Rattle.std.specs.List.Sorted.{IsPermutation}
 use Rattle.std.proofs.lemmas.List.Sorted.{IsPermutation-map, list_any-IsPermutation}
@@ -9,13 +10,7 @@ use Rattle.cluster_slots.specs.Lists.{all_some}
 -- what is there of each, if nothing is missing
 pub all_some_is : {A X : Type 0} (f : A → Option X) (d : X) (xs : List A) → all_some (map f xs) ≡ cond (list_any (λ x. is_none (f x)) xs) None (Some (map (λ x. unwrap_or (f x) d) xs))
 all_some_is f d [] = refl
-all_some_is {A} {X} f d (x ∷ xs) = more (f x) (list_any (λ y. is_none (f y)) xs) (all_some_is f d xs)
-  where
-    more : (o : Option X) (b : Bool) → all_some (map f xs) ≡ cond b None (Some (map (λ y. unwrap_or (f y) d) xs))
-        → all_some (o ∷ map f xs) ≡ cond (is_none o || b) None (Some (unwrap_or o d ∷ map (λ y. unwrap_or (f y) d) xs))
-    more None b e = refl
-    more (Some y) true e = ap (option_map (λ ys. y ∷ ys)) e
-    more (Some y) false e = ap (option_map (λ ys. y ∷ ys)) e
+all_some_is {A} {X} f d (x ∷ xs) = grind (arith, common_steps, all_some_is f d xs)
 
 -- what is made of what is there of each, where the order does not count
 pub any_order_of : {A X Y : Type 0} (f : A → Option X) (d : X) (made : List X → Option Y) → ((xs ys : List X) → IsPermutation xs ys → made ys ≡ made xs) → (these those : List A) → IsPermutation these those → option_and_then made (all_some (map f those)) ≡ option_and_then made (all_some (map f these))
@@ -57,8 +52,5 @@ all_some_at (o ∷ os) xs zero d e l = let f = first_and_others o os xs e in f.t
 all_some_at (o ∷ os) xs (suc k) d e l = let f = first_and_others o os xs e in all_some_at os f.others k d f.others_are (omega arith) ∙ ap (λ ys. Some (get_or ys (suc k) d)) (sym f.is)
 
 pub all_some_length : {X : Type 0} (os : List (Option X)) (xs : List X) → all_some os ≡ Some xs → length xs ≡ length os
-all_some_length {X} [] xs e = none xs (cc)
-  where
-    none : (ys : List X) → [] ≡ ys → length ys ≡ 0
-    none ys h = sym (ap length h)
+all_some_length {X} [] xs e = grind (arith, common_steps)
 all_some_length (o ∷ os) xs e = let f = first_and_others o os xs e in let h = all_some_length os f.others f.others_are in ap length f.is ∙ omega (arith, h)

@@ -52,10 +52,7 @@ fits (Some ys) rs n counts xs f g = by_test (eqb (length ys) n)
     whole (Some yss) is m l h = record { first = ys; others = flatten yss; there = refl; long = l; others_fit = m; others_are = ap (option_map flatten) is; is = cc }
 
 pub items_length : (rs : List Reply) (pss : List (List ℕ)) (xs : List Reply) → length rs ≡ length pss → first_misfit rs (map length pss) ≡ None → all_items rs ≡ Some xs → length xs ≡ length (flatten pss)
-items_length [] [] xs n f g = nil_is xs (cc)
-  where
-    nil_is : (ys : List Reply) → [] ≡ ys → length ys ≡ 0
-    nil_is ys h = sym (ap length h)
+items_length [] [] xs n f g = grind (arith, common_steps)
 items_length [] (ps ∷ pss) xs n f g = absurd (omega arith)
 items_length (r ∷ rs) [] xs n f g = absurd (omega arith)
 items_length (r ∷ rs) (ps ∷ pss) xs n f g =

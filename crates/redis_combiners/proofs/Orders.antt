@@ -1,5 +1,6 @@
 -- The order of the replies does not count.
-use Rattle.std.proofs.Common.{◌≡◌, ℕ, ◌+◌, List, [], ◌∷◌, sym, ap, ◌∙◌, refl, arith, fold, ℤ, pos, ◌+ℤ◌, ◌≤ℤ◌, Option, Some, None, ⊎_elim, subst}
+use Rattle.std.proofs.Common.{◌≡◌, ℕ, ◌+◌, List, [], ◌∷◌, sym, ap, refl, arith, fold, ℤ, pos, ◌+ℤ◌, ◌≤ℤ◌, Option, Some, None, ⊎_elim, subst}
+use Rattle.std.proofs.lemmas.Grind.{common_steps}
 use lib.IntN.{negsuc}
 use Rattle.std.specs.Prelude.{option_map, option_and_then, sum_by}
 use Rattle.std.specs.Int.{int_min}
@@ -25,18 +26,10 @@ total_step t a (negsuc n) d u e = omega (arith, ints)
 
 total_parts : (a : ℤ) (xs : List ℤ) → fold ◌+ℤ◌ a xs +ℤ pos (sum_by down xs) ≡ a +ℤ pos (sum_by up xs)
 total_parts a [] = refl
-total_parts a (x ∷ xs) =
-    ap (λ n. fold ◌+ℤ◌ (a +ℤ x) xs +ℤ pos n) (sum_by-cons down x xs)
-    ∙ total_step (fold ◌+ℤ◌ (a +ℤ x) xs) a x (sum_by down xs) (sum_by up xs) (total_parts (a +ℤ x) xs)
-    ∙ ap (λ n. a +ℤ pos n) (sym (sum_by-cons up x xs))
+total_parts a (x ∷ xs) = grind (arith, common_steps, sum_by-cons down x xs, sum_by-cons up x xs, total_step (fold ◌+ℤ◌ (a +ℤ x) xs) a x (sum_by down xs) (sum_by up xs) (total_parts (a +ℤ x) xs), total_parts (a +ℤ x) xs)
 
 total_same : (xs ys : List ℤ) → IsPermutation xs ys → total ys ≡ total xs
-total_same xs ys h =
-    let e = total_parts (pos 0) xs in
-    let f = total_parts (pos 0) ys in
-    let u = sum_by-IsPermutation up xs ys h in
-    let d = sum_by-IsPermutation down xs ys h in
-    omega (arith, ints)
+total_same xs ys h = grind (arith, common_steps, total_parts (pos 0) xs, total_parts (pos 0) ys, sum_by-IsPermutation up xs ys h, sum_by-IsPermutation down xs ys h, ints)
 
 least_below : (a : ℤ) (xs ys : List ℤ) → IsPermutation xs ys → fold int_min a xs ≤ℤ fold int_min a ys
 least_below a xs ys h =
@@ -46,10 +39,7 @@ least_below a xs ys h =
     (fold-int_min_reached a ys (fold int_min a ys) refl)
 
 least_same : (a : ℤ) (xs ys : List ℤ) → IsPermutation xs ys → fold int_min a ys ≡ fold int_min a xs
-least_same a xs ys h =
-    let low = least_below a xs ys h in
-    let high = least_below a ys xs (IsPermutation-sym xs ys h) in
-    omega (arith, ints)
+least_same a xs ys h = grind (arith, common_steps, least_below a xs ys h, least_below a ys xs (IsPermutation-sym xs ys h), IsPermutation-sym xs ys h, ints)
 
 mapped : (f : List ℤ → ℤ) (o : Option (List ℤ)) → option_map f o ≡ option_and_then (λ ns. Some (f ns)) o
 mapped f None = refl

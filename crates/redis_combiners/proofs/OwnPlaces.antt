@@ -1,8 +1,8 @@
 -- Of items with a place each: every item stands at its place.
-use Rattle.std.proofs.Common.{◌≡◌, ℕ, zero, suc, ◌<◌, Bool, true, false, cond, List, [], ◌∷◌, length, map, get_or, Option, Some, None, refl, ap, sym, subst, ◌∙◌, arith}
+use Rattle.std.proofs.Common.{◌≡◌, ℕ, zero, suc, ◌<◌, Bool, true, false, cond, List, [], ◌∷◌, length, map, get_or, Option, Some, None, ap, sym, ◌∙◌, arith}
+use Rattle.std.proofs.lemmas.Grind.{common_steps}
 use Rattle.std.specs.Prelude.{nat_eq, nat_lt, ◌&&◌}
 use Rattle.std.specs.List.{range_with_len, list_all}
-use Rattle.std.proofs.lemmas.Bool.{eq-eqb, ltb-true}
 use Rattle.std.proofs.lemmas.List.FromFn.{length-map-range_with_len, get_or-map-range_with_len}
 use Rattle.resp_core.specs.Reply.{Reply}
 use Rattle.cluster_slots.specs.Lists.{all_some}
@@ -12,33 +12,19 @@ use Rattle.redis_combiners.proofs.Arranging.{items_at-cons}
 use Rattle.redis_combiners.proofs.Lists.{all_some_at, all_some_length}
 
 single_is : (xs : List Reply) (x : Reply) → single xs ≡ Some x → xs ≡ x ∷ []
-single_is [] x e = absurd (cc)
-single_is (y ∷ []) x e = let same : y ≡ x = cc in ap (λ z. z ∷ []) same
-single_is (y ∷ (z ∷ xs)) x e = absurd (cc)
+single_is xs x h1 = grind (arith)
 
 -- an item is among those of its place
 stands : (ps : List ℕ) (xs : List Reply) (j : ℕ) (d : Reply) → j < length ps → length xs ≡ length ps → 0 < length (items_of_index (get_or ps j 0) ps xs)
 stands [] xs j d l n = absurd (omega arith)
 stands (p ∷ ps) [] j d l n = absurd (omega arith)
-stands (p ∷ ps) (x ∷ xs) zero d l n = subst (λ ys. 0 < length ys) (sym (items_at-cons p p ps x xs)) (sized (nat_eq p p) (eq-eqb p p refl))
-  where
-    sized : (b : Bool) → b ≡ true → 0 < length (cond b (x ∷ items_of_index p ps xs) (items_of_index p ps xs))
-    sized true e = omega arith
-    sized false e = absurd (cc)
-stands (p ∷ ps) (x ∷ xs) (suc j) d l n = subst (λ ys. 0 < length ys) (sym (items_at-cons (get_or ps j 0) p ps x xs)) (sized (nat_eq p (get_or ps j 0)) (stands ps xs j d (omega arith) (omega arith)))
-  where
-    sized : (b : Bool) → 0 < length (items_of_index (get_or ps j 0) ps xs) → 0 < length (cond b (x ∷ items_of_index (get_or ps j 0) ps xs) (items_of_index (get_or ps j 0) ps xs))
-    sized true h = omega arith
-    sized false h = h
+stands (p ∷ ps) (x ∷ xs) zero d l n = grind (arith, common_steps)
+stands (p ∷ ps) (x ∷ xs) (suc j) d l n = grind (arith, common_steps, stands ps xs j d (omega arith) (omega arith))
 
 only_one : (ps : List ℕ) (xs : List Reply) (j : ℕ) (y d : Reply) → items_of_index (get_or ps j 0) ps xs ≡ y ∷ [] → j < length ps → length xs ≡ length ps → get_or xs j d ≡ y
 only_one [] xs j y d e l n = absurd (omega arith)
 only_one (p ∷ ps) [] j y d e l n = absurd (omega arith)
-only_one (p ∷ ps) (x ∷ xs) zero y d e l n = first (nat_eq p p) (eq-eqb p p refl) (sym (items_at-cons p p ps x xs) ∙ e)
-  where
-    first : (b : Bool) → b ≡ true → cond b (x ∷ items_of_index p ps xs) (items_of_index p ps xs) ≡ y ∷ [] → x ≡ y
-    first true t h = cc
-    first false t h = absurd (cc)
+only_one (p ∷ ps) (x ∷ xs) zero y d e l n = grind (arith, common_steps)
 only_one (p ∷ ps) (x ∷ xs) (suc j) y d e l n = later (nat_eq p (get_or ps j 0)) (stands ps xs j d (omega arith) (omega arith)) (λ h. only_one ps xs j y d h (omega arith) (omega arith)) (sym (items_at-cons (get_or ps j 0) p ps x xs) ∙ e)
   where
     later : (b : Bool) → 0 < length (items_of_index (get_or ps j 0) ps xs) → (items_of_index (get_or ps j 0) ps xs ≡ y ∷ [] → get_or xs j d ≡ y) → cond b (x ∷ items_of_index (get_or ps j 0) ps xs) (items_of_index (get_or ps j 0) ps xs) ≡ y ∷ [] → get_or xs j d ≡ y
@@ -47,10 +33,7 @@ only_one (p ∷ ps) (x ∷ xs) (suc j) y d e l n = later (nat_eq p (get_or ps j 
 
 within_at : (n : ℕ) (ps : List ℕ) (j : ℕ) → list_all (λ p. nat_lt p n) ps ≡ true → j < length ps → get_or ps j 0 < n
 within_at n [] j e l = absurd (omega arith)
-within_at n (p ∷ ps) zero e l = by_test (nat_lt p n) (λ t. ltb-true p n t) (λ f. absurd (none f))
-  where
-    none : nat_lt p n ≡ false → ⊥
-    none f = cc
+within_at n (p ∷ ps) zero e l = grind (arith, common_steps)
 within_at n (p ∷ ps) (suc j) e l = within_at n ps j (rest (nat_lt p n) e) (omega arith)
   where
     rest : (b : Bool) → (b && list_all (λ q. nat_lt q n) ps) ≡ true → list_all (λ q. nat_lt q n) ps ≡ true

@@ -1,5 +1,6 @@
 -- The order of the replies does not count for their totals.
 use Rattle.std.proofs.Common.{◌≡◌, length, ℕ, ◌+◌, List, [], ◌∷◌, sym, ap, ◌∙◌, refl, arith, map, ℤ, pos, ◌+ℤ◌, Option, Some, None, Bool, true, false, cond}
+use Rattle.std.proofs.lemmas.Grind.{common_steps}
 use lib.IntN.{negsuc}
 use Rattle.std.specs.Prelude.{option_map, option_and_then, is_none, is_some, unwrap_or, ◌||◌, sum_by, flat_map}
 use Rattle.std.specs.List.{list_any}
@@ -59,21 +60,10 @@ part_kept t d u e = omega (arith, ints)
 
 total_parts : (q : List ℕ) (ps : List KeyNumber) → or_zero (sum_at q ps) +ℤ pos (sum_by (downs q) ps) ≡ pos (sum_by (ups q) ps)
 total_parts q [] = refl
-total_parts q (p ∷ ps) =
-    ap (λ n. or_zero (sum_at q (p ∷ ps)) +ℤ pos n) (sum_by-cons (downs q) p ps)
-    ∙ parts (bytes_eq p.0 q) (total_parts q ps)
-    ∙ ap pos (sym (sum_by-cons (ups q) p ps))
-  where
-    parts : (b : Bool) → or_zero (sum_at q ps) +ℤ pos (sum_by (downs q) ps) ≡ pos (sum_by (ups q) ps)
-        → or_zero (cond b (Some (p.1 +ℤ or_zero (sum_at q ps))) (sum_at q ps)) +ℤ pos (cond b (down p.1) 0 + sum_by (downs q) ps) ≡ pos (cond b (up p.1) 0 + sum_by (ups q) ps)
-    parts true e = part_step p.1 (or_zero (sum_at q ps)) (sum_by (downs q) ps) (sum_by (ups q) ps) e
-    parts false e = part_kept (or_zero (sum_at q ps)) (sum_by (downs q) ps) (sum_by (ups q) ps) e
+total_parts q (p ∷ ps) = grind (arith, common_steps, or_zero, sum_at, sum_by-cons, part_step, part_kept, total_parts q ps)
 
 same_option : (a b : Option ℤ) → is_some a ≡ is_some b → or_zero a ≡ or_zero b → a ≡ b
-same_option None None e f = refl
-same_option None (Some y) e f = absurd (cc)
-same_option (Some x) None e f = absurd (cc)
-same_option (Some x) (Some y) e f = ap Some f
+same_option a b h1 h2 = grind (arith)
 
 from_parts : (s t : ℤ) (d u e v : ℕ) → s +ℤ pos d ≡ pos u → t +ℤ pos e ≡ pos v → d ≡ e → u ≡ v → s ≡ t
 from_parts s t d u e v p q h k = omega (arith, ints)
@@ -91,11 +81,7 @@ total_same q rs others h =
 
 -- the same of pairs
 pub sum_permuted : (q : List ℕ) (ps qs : List KeyNumber) → IsPermutation ps qs → sum_at q qs ≡ sum_at q ps
-sum_permuted q ps qs h =
-    let t : (List ℕ × ℤ) → Bool = λ p. bytes_eq p.0 q in
-    same_option (sum_at q qs) (sum_at q ps) (sum_has q qs ∙ sym (list_any-IsPermutation t ps qs h) ∙ sym (sum_has q ps))
-    (from_parts (or_zero (sum_at q qs)) (or_zero (sum_at q ps)) (sum_by (downs q) qs) (sum_by (ups q) qs) (sum_by (downs q) ps) (sum_by (ups q) ps) (total_parts q qs) (total_parts q ps)
-    (sum_by-IsPermutation (downs q) ps qs h) (sum_by-IsPermutation (ups q) ps qs h))
+sum_permuted q ps qs h = grind (arith, common_steps, same_option, sum_at q qs, sum_at q ps, sum_has q qs, sum_has q ps, list_any-IsPermutation, from_parts (or_zero (sum_at q qs)) (or_zero (sum_at q ps)) (sum_by (downs q) qs) (sum_by (ups q) qs) (sum_by (downs q) ps) (sum_by (ups q) ps) (total_parts q qs) (total_parts q ps), or_zero (sum_at q qs), or_zero (sum_at q ps), total_parts q qs, total_parts q ps, sum_by-IsPermutation (downs q) ps qs h, sum_by-IsPermutation (ups q) ps qs h)
 
 length_same : (rs others : List Reply) → IsPermutation rs others → length (flat_map pairs_of_reply others) ≡ length (flat_map pairs_of_reply rs)
 length_same rs others h = length-flat_map pairs_of_reply others ∙ sum_by-IsPermutation (λ r. length (pairs_of_reply r)) rs others h ∙ sym (length-flat_map pairs_of_reply rs)
@@ -104,12 +90,4 @@ map_same : (rs others : List Reply) → IsPermutation rs others → map_of_total
 map_same rs others h = grind (arith, length_same, same_totals, total_same)
 
 pub any_order : (rs others : List Reply) → IsPermutation rs others → combined_map others ≡ combined_map rs
-any_order rs others h =
-    ap (option_and_then map_of_totals) (all_are others)
-    ∙ ap (λ b. option_and_then map_of_totals (cond b None (Some (flat_map pairs_of_reply others)))) (sym (list_any-IsPermutation has_no_pairs rs others h))
-    ∙ by_cases (list_any has_no_pairs rs)
-    ∙ sym (ap (option_and_then map_of_totals) (all_are rs))
-  where
-    by_cases : (b : Bool) → option_and_then map_of_totals (cond b None (Some (flat_map pairs_of_reply others))) ≡ option_and_then map_of_totals (cond b None (Some (flat_map pairs_of_reply rs)))
-    by_cases true = refl
-    by_cases false = map_same rs others h
+any_order rs others h = grind (arith, common_steps, all_are, list_any-IsPermutation, map_same)

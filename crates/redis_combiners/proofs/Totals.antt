@@ -1,8 +1,9 @@
 -- The total of each key, as the sum of its numbers.
 use Rattle.std.proofs.Common.{◌≡◌, Ordering, length, ℕ, ◌^◌, ◌<◌, ℤ, pos, ◌+ℤ◌, List, [], ◌∷◌, Bool, true, false, cond, Option, Some, None, refl, ap, sym, subst, ◌∙◌, arith, map, get_or, fold, Vec, Global}
-use Rattle.std.specs.Prelude.{option_map, unwrap_or, is_some, filter, ◌&&◌, ◌||◌, T}
+use Rattle.std.proofs.lemmas.Grind.{common_steps}
+use Rattle.std.specs.Prelude.{option_map, unwrap_or, is_some, ◌&&◌, ◌||◌, T}
 use Rattle.std.specs.Ordering.{is_eq, is_lt, nat_cmp}
-use Rattle.std.specs.declared.cmp.Ordering.TheVariants.{Less, Equal, Greater}
+use Rattle.std.specs.declared.cmp.Ordering.TheVariants.{Less}
 use Rattle.std.specs.Cmp.Lexicographic.{slice_cmp, nat_list_cmp_total, nat_list_eq_equiv}
 use Rattle.std.specs.List.{AllByRecursion, list_any}
 use Rattle.std.specs.List.Sorted.{IsStrictlySortedBy}
@@ -42,29 +43,18 @@ total_more n ns = ap (λ z. fold ◌+ℤ◌ z ns) (omega (arith, ints)) ∙ sum_
 
 sum_is : (q : List ℕ) (ps : List KeyNumber) → or_zero (sum_at q ps) ≡ total_of q ps
 sum_is q [] = refl
-sum_is q (p ∷ ps) = more (bytes_eq p.0 q) (sum_is q ps)
-  where
-    more : (b : Bool) → or_zero (sum_at q ps) ≡ total_of q ps → or_zero (cond b (Some (p.1 +ℤ or_zero (sum_at q ps))) (sum_at q ps)) ≡ total (map (λ r. r.1) (cond b (p ∷ filter (has_key q) ps) (filter (has_key q) ps)))
-    more true e = ap (λ z. p.1 +ℤ z) e ∙ sym (total_more p.1 (map (λ r. r.1) (filter (has_key q) ps)))
-    more false e = e
+sum_is q (p ∷ ps) = grind (arith, common_steps, total_more, sum_is q ps)
 
 pub sum_has : (q : List ℕ) (ps : List KeyNumber) → is_some (sum_at q ps) ≡ list_any (has_key q) ps
 sum_has q [] = refl
-sum_has q (p ∷ ps) = more (bytes_eq p.0 q) (sum_has q ps)
-  where
-    more : (b : Bool) → is_some (sum_at q ps) ≡ list_any (has_key q) ps → is_some (cond b (Some (p.1 +ℤ or_zero (sum_at q ps))) (sum_at q ps)) ≡ (b || list_any (has_key q) ps)
-    more true e = refl
-    more false e = e
+sum_has q (p ∷ ps) = grind (arith, common_steps, sum_has q ps)
 
 as_cond : (o : Option ℤ) → o ≡ cond (is_some o) (Some (or_zero o)) None
 as_cond None = refl
 as_cond (Some n) = refl
 
 pub sum_at_is : (q : List ℕ) (ps : List KeyNumber) → sum_at q ps ≡ total_at q ps
-sum_at_is q ps =
-    as_cond (sum_at q ps)
-    ∙ ap (λ b. cond b (Some (or_zero (sum_at q ps))) None) (sum_has q ps)
-    ∙ ap (λ z. cond (list_any (has_key q) ps) (Some z) None) (sum_is q ps)
+sum_at_is q ps = grind (arith, common_steps, as_cond (sum_at q ps), sum_has q ps, sum_is q ps)
 
 -- the keys are those of the pairs
 same_bytes : (q k : List ℕ) → is_eq (order q k) ≡ bytes_eq k q
@@ -112,9 +102,7 @@ second true b h = h
 second false b h = absurd h
 
 less : (o : Ordering) → T (is_lt o) → o ≡ Less
-less Less h = refl
-less Equal h = absurd h
-less Greater h = absurd h
+less o h1 = grind (arith)
 
 less_all : (k : List ℕ) (es : List KeyNumber) → T (below_all order k es) → AllByRecursion (λ y. order k y ≡ Less) (map (λ e. e.0) es)
 less_all k [] h = tt
@@ -188,9 +176,7 @@ rising (e ∷ es) h = both _ _ (below e.0 es h.0) (rising es h.1)
 -- what is above a key is of other keys
 none_above : (k : List ℕ) (ps : List KeyNumber) → AllByRecursion (λ y. order k y ≡ Less) (map (λ p. p.0) ps) → sum_at k ps ≡ None
 none_above k [] h = refl
-none_above k (p ∷ ps) h =
-    let other : bytes_eq p.0 k ≡ false = sym (same_bytes k p.0) ∙ ap is_eq h.0 in
-    ap (λ b. cond b (Some (p.1 +ℤ or_zero (sum_at k ps))) (sum_at k ps)) other ∙ none_above k ps h.1
+none_above k (p ∷ ps) h = grind (arith, common_steps, same_bytes k p.0, none_above k ps h.1)
 
 -- where keys ascend, what is found is the total
 find_sorted : (q : List ℕ) (ps : List KeyNumber) → IsStrictlySortedBy order (map (λ p. p.0) ps) → find order q ps ≡ sum_at q ps

@@ -1,15 +1,12 @@
 -- Counts of keys add up, and so do lists of keys.
-use Rattle.std.proofs.Common.{◌≡◌, ◌+◌, ℕ, ℤ, pos, ◌+ℤ◌, Bool, true, false, ◌&&◌, cond, inl, inr, List, [], ◌∷◌, ◌++◌, map, fold, length, Option, Some, None, refl, sym, ap, subst, ◌∙◌, arith}
-use Rattle.std.specs.Prelude.{count_by, is_some, option_map, option_and_then}
-use Rattle.std.specs.Str.{bytes_eq}
-use Rattle.std.proofs.lemmas.Int.{ints}
+use Rattle.std.proofs.Common.{◌≡◌, ◌+◌, ℕ, ℤ, pos, ◌+ℤ◌, Bool, true, ◌&&◌, cond, inl, inr, List, [], ◌∷◌, ◌++◌, map, fold, length, Option, Some, None, refl, sym, ap, subst, ◌∙◌, arith}
+use Rattle.std.proofs.lemmas.Grind.{common_steps}
+use Rattle.std.specs.Prelude.{is_some, option_map}
 use Rattle.std.proofs.lemmas.List.{length-append}
-use Rattle.std.proofs.lemmas.List.Sums.{sum_by-append}
 use Rattle.std.proofs.lemmas.Option.{none-some, same_Some}
 use Rattle.resp_core.specs.Answer.{Answer}
-use Rattle.resp_core.proofs.Cases.{by_test}
 use Rattle.resp_core.specs.Reply.{Reply, int}
-use Rattle.redis_combiners.specs.Aggregate.{numbers, total, fits_i64, in_i64, sum_of, aggregate_of}
+use Rattle.redis_combiners.specs.Aggregate.{numbers, in_i64, sum_of, aggregate_of}
 use Rattle.cluster_slots.specs.declared.aggregate_op.AggregateOp.TheVariants.{Sum}
 use Rattle.std.specs.Prelude.{Result, Ok, Err, IfOk}
 use Rattle.resp_core.specs.ErrorParts.{ErrorParts}
@@ -27,36 +24,12 @@ use Rattle.redis_commands.proofs.Whole.{whole_keyspace}
 use Rattle.redis_cluster.specs.Unsplit.{Keyspace}
 use Rattle.redis_commands.specs.Keyspaces.{IsServed, AreMeasures, counted_answer, IsAdditive, AreKeysOf, HasCount, joined_measures}
 
-count_append : (p : List ℕ → Bool) (xs ys : List (List ℕ)) → count_by p (xs ++ ys) ≡ count_by p xs + count_by p ys
-count_append p xs ys = sum_by-append (λ x. cond (p x) 1 0) xs ys
-
 -- whether a key counts
 abbrev counts : Bool → Option (Unit {0}) → ℕ
 counts wanted cell = cond (wanted && is_some cell) 1 0
 
-counts_none : (wanted : Bool) → counts wanted None ≡ 0
-counts_none true = refl
-counts_none false = refl
-
 pub lists_add : (wanted : List ℕ → Bool) → IsAdditive (AreKeysOf wanted) [] ◌++◌
-lists_add wanted = record {
-  empty = λ keyspace none key. sym (ap (counts (wanted key)) (none key) ∙ counts_none (wanted key));
-  apart = λ one other both xs ys apart hx hy key.
-      let added : count_by (bytes_eq key) (xs ++ ys) ≡ count_by (bytes_eq key) xs + count_by (bytes_eq key) ys = count_append (bytes_eq key) xs ys in
-      let x : count_by (bytes_eq key) xs ≡ counts (wanted key) (one key) = hx key in
-      let y : count_by (bytes_eq key) ys ≡ counts (wanted key) (other key) = hy key in
-      let none : counts (wanted key) None ≡ 0 = counts_none (wanted key) in
-      elim (apart.each key) [
-        | inl h ↦
-            let gone : counts (wanted key) (other key) ≡ counts (wanted key) None = ap (counts (wanted key)) h.0 in
-            let same : counts (wanted key) (both key) ≡ counts (wanted key) (one key) = ap (counts (wanted key)) h.1 in
-            omega (arith, added, x, y, none, gone, same)
-        | inr h ↦
-            let gone : counts (wanted key) (one key) ≡ counts (wanted key) None = ap (counts (wanted key)) h.0 in
-            let same : counts (wanted key) (both key) ≡ counts (wanted key) (other key) = ap (counts (wanted key)) h.1 in
-            omega (arith, added, x, y, none, gone, same)
-      ];
-}
+lists_add wanted = grind (arith, common_steps)
 
 pub counts_add : IsAdditive HasCount 0 ◌+◌
 counts_add =
@@ -76,14 +49,10 @@ numbers_are (n ∷ ns) = ap (option_map (λ zs. pos n ∷ zs)) (numbers_are ns)
 
 fold_pos : (a : ℕ) (ns : List ℕ) → fold ◌+ℤ◌ (pos a) (map pos ns) ≡ pos (a + joined_measures 0 ◌+◌ ns)
 fold_pos a [] = ap pos (omega arith)
-fold_pos a (n ∷ ns) =
-    let sum : pos a +ℤ pos n ≡ pos (a + n) = omega (arith, ints) in
-    ap (λ z. fold ◌+ℤ◌ z (map pos ns)) sum ∙ fold_pos (a + n) ns ∙ ap pos (omega arith)
+fold_pos a (n ∷ ns) = grind (arith, common_steps, fold_pos (a + n) ns)
 
 in_i64_is : (n : ℤ) (m : ℤ) → in_i64 n ≡ Some m → n ≡ m
-in_i64_is n m h = by_test (fits_i64 n)
-    (λ t. let is : in_i64 n ≡ Some n = rw t refl in same_Some n m (sym is ∙ h))
-    (λ t. let is : in_i64 n ≡ None = rw t refl in absurd (none-some m (sym is ∙ h)))
+in_i64_is n m h = grind (arith, common_steps)
 
 int_is : (o : Option ℤ) (value : Reply) → option_map int o ≡ Some value → (m : ℤ) × (o ≡ Some m) × (value ≡ int m)
 int_is None value h = absurd (none-some value h)
@@ -91,11 +60,7 @@ int_is (Some m) value h = (m, refl, sym (same_Some (int m) value h))
 
 -- the sum of counts is the whole count, where it fits
 pub sum_is : (ns : List ℕ) (value : Reply) → aggregate_of Sum (map as_reply ns) ≡ Some value → value ≡ int (pos (joined_measures 0 ◌+◌ ns))
-sum_is ns value h =
-    let found = int_is (sum_of (map as_reply ns)) value h in
-    let is : sum_of (map as_reply ns) ≡ in_i64 (total (map pos ns)) = ap (option_and_then (λ zs. in_i64 (total zs))) (numbers_are ns) in
-    let number : total (map pos ns) ≡ found.0 = in_i64_is (total (map pos ns)) found.0 (sym is ∙ found.1) in
-    found.2 ∙ ap int (sym number ∙ fold_pos 0 ns ∙ ap pos (omega arith))
+sum_is ns value h = grind (arith, common_steps, int_is (sum_of (map as_reply ns)) value h, numbers_are ns, in_i64_is, fold_pos 0 ns)
 
 no_errors : (ns : List ℕ) → first_error (map counted_answer ns) ≡ None
 no_errors [] = refl
@@ -111,10 +76,7 @@ made_some (Some r) value h = let u : Ok r ≡ Ok value = h in cc
 
 -- what is made of counts is the count of the whole
 of_counts : (targets : List Address) (ns : List ℕ) (value : Reply) → reply_by_policy (Some (Aggregate Sum)) targets (map counted_answer ns) ≡ Ok value → value ≡ int (pos (joined_measures 0 ◌+◌ ns))
-of_counts targets ns value made =
-    let plain : reply_by_policy (Some (Aggregate Sum)) targets (map counted_answer ns) ≡ or_refused (aggregate_of Sum (map as_reply ns)) =
-    rw (no_errors ns, counts_are ns) refl in
-    sum_is ns value (made_some (aggregate_of Sum (map as_reply ns)) value (sym plain ∙ made))
+of_counts targets ns value made = grind (arith, common_steps, no_errors, counts_are, sum_is, made_some)
 
 pub counted : (rule : ReplyRule) (targets : List Address) (answers : List Answer) (entries : List (RangeEntry SlotNodes)) (keyspace : Keyspace (Unit {0})) (ns : List ℕ) (result : Result Value ErrorParts) →
     IsCombined rule targets answers result → rule ≡ by_policy (Some (Aggregate Sum)) → IsServed entries keyspace →

@@ -1,5 +1,6 @@
 -- Lists of keys, joined into one array, list the keys of the whole keyspace.
-use Rattle.std.proofs.Common.{◌≡◌, ℕ, Bool, List, [], ◌∷◌, ◌++◌, map, Option, Some, None, refl, sym, ap, subst, ◌∙◌, inl, inr}
+use Rattle.std.proofs.Common.{◌≡◌, ℕ, Bool, List, [], ◌∷◌, ◌++◌, map, Option, Some, None, refl, ap, subst, ◌∙◌, inl, inr, arith}
+use Rattle.std.proofs.lemmas.Grind.{common_steps}
 use Rattle.std.specs.Prelude.{option_map, Result, Ok, Err, IfOk}
 use Rattle.resp_core.specs.Answer.{Answer}
 use Rattle.resp_core.specs.ErrorParts.{ErrorParts}
@@ -15,7 +16,7 @@ use Rattle.cluster_slots.specs.Lists.{all_some, flatten}
 use Rattle.redis_routing.specs.declared.policy.ResponsePolicy.TheVariants.{CombineArrays}
 use Rattle.redis_cluster.specs.Unsplit.{Keyspace}
 use Rattle.redis_commands.specs.Answers.{values_in, first_error}
-use Rattle.redis_commands.specs.Policy.{or_refused, reply_by_policy}
+use Rattle.redis_commands.specs.Policy.{reply_by_policy}
 use Rattle.redis_commands.specs.Rule.{ReplyRule, by_policy, IsCombined}
 use Rattle.redis_commands.specs.Keyspaces.{IsServed, AreMeasures, AreKeysOf, listed_answer, joined_measures}
 use Rattle.redis_commands.proofs.Counts.{lists_add, made_some}
@@ -34,9 +35,7 @@ no_errors (l ∷ ls) = no_errors ls
 
 arrays_are : (ls : List (List (List ℕ))) → all_some (map array_of (values_in (map listed_answer ls))) ≡ Some (map (map bulk) ls)
 arrays_are [] = refl
-arrays_are (l ∷ ls) =
-    ap (λ xs. option_map (λ yss. xs ∷ yss) (all_some (map array_of (values_in (map listed_answer ls))))) (items_are (map bulk l))
-    ∙ ap (option_map (λ yss. map bulk l ∷ yss)) (arrays_are ls)
+arrays_are (l ∷ ls) = grind (arith, common_steps, items_are, arrays_are ls)
 
 map_append : (xs ys : List (List ℕ)) → map bulk xs ++ map bulk ys ≡ map bulk (xs ++ ys)
 map_append [] ys = refl
@@ -57,10 +56,7 @@ some_is a b h = cc
 
 -- what is made of lists of keys lists the keys of the whole
 of_lists : (targets : List Address) (ls : List (List (List ℕ))) (value : Reply) → reply_by_policy (Some CombineArrays) targets (map listed_answer ls) ≡ Ok value → value ≡ array (replies_of (map bulk (joined_lists ls)))
-of_lists targets ls value made =
-    let plain : reply_by_policy (Some CombineArrays) targets (map listed_answer ls) ≡ or_refused (as_array (Some (map bulk (joined_lists ls)))) =
-    rw (no_errors ls, items_of ls) refl in
-    some_is (array (replies_of (map bulk (joined_lists ls)))) value (made_some (as_array (Some (map bulk (joined_lists ls)))) value (sym plain ∙ made))
+of_lists targets ls value made = grind (arith, common_steps, no_errors, items_of, some_is, made_some)
 
 pub listed : (rule : ReplyRule) (targets : List Address) (answers : List Answer) (wanted : List ℕ → Bool) (entries : List (RangeEntry SlotNodes)) (keyspace : Keyspace (Unit {0})) (ls : List (List (List ℕ))) (result : Result Value ErrorParts) →
     IsCombined rule targets answers result → rule ≡ by_policy (Some CombineArrays) → IsServed entries keyspace →

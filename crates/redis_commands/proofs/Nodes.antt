@@ -1,5 +1,6 @@
 -- Lists of a map's nodes, which are empty only if the map is.
-use Rattle.std.proofs.Common.{◌≡◌, ℕ, List, [], ◌∷◌, map, Bor, Option, None, Some, length, replicate, inl, inr, refl, sym, ap, ◌∙◌, arith}
+use Rattle.std.proofs.Common.{◌≡◌, ℕ, List, [], ◌∷◌, map, Bor, Option, None, Some, length, replicate, refl, ap, arith}
+use Rattle.std.proofs.lemmas.Grind.{common_steps}
 use Rattle.std.specs.Prelude.{cond, is_some, nat_lt, option_map, slice_get}
 use Rattle.std.proofs.lemmas.Bool.{le-ltb, lt-ltb}
 use Rattle.std.proofs.lemmas.Option.{slice_get_cases}
@@ -50,7 +51,4 @@ same_at x (Some y) = refl
 
 -- whether there is an element of this number
 pub is_there : {X : Type 0} (xs : List X) (n : ℕ) → is_some (slice_get xs n) ≡ nat_lt n (length xs)
-is_there xs n = elim (slice_get_cases xs n).1 [
-  | inl found ↦ ap is_some found.2 ∙ sym (lt-ltb n (length xs) found.1)
-  | inr past ↦ ap is_some past.1 ∙ sym (le-ltb n (length xs) past.0)
-]
+is_there xs n = grind (arith, common_steps, slice_get_cases, lt-ltb, le-ltb)

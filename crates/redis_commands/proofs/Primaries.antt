@@ -1,12 +1,13 @@
 -- The primary of a slot is that of the entry that answers for it.
-use Rattle.std.proofs.Common.{◌≡◌, ◌<◌, ◌≤◌, ℕ, nat_le, true, inl, inr, List, [], ◌∷◌, Some, refl, ap, ◌∙◌, arith}
-use Rattle.std.specs.Prelude.{find, option_and_then}
+use Rattle.std.proofs.Common.{◌≡◌, ◌<◌, ◌≤◌, ℕ, nat_le, true, inl, inr, List, [], ◌∷◌, Some, ap, arith}
+use Rattle.std.proofs.lemmas.Grind.{common_steps}
+use Rattle.std.specs.Prelude.{find}
 use Rattle.std.proofs.lemmas.Bool.{le-leb, leb-true}
 use Rattle.resp_core.proofs.Cases.{by_test}
 use Rattle.cluster_map.specs.RangeMap.{RangeEntry, end_of, Ascends, IsAnswerAt}
 use Rattle.cluster_map.specs.SlotNodes.{SlotNodes}
 use Rattle.cluster_map.proofs.Ranges.{Contains-nil, Contains-cons_cases, Contains-cons_head, Contains-cons_tail, EndsAfter-contains, EndsFirstFrom, EndsFirstFrom-answer}
-use Rattle.redis_commands.specs.Keyspaces.{primary_from, primary_of_slot}
+use Rattle.redis_commands.specs.Keyspaces.{primary_of_slot}
 
 found : {V : Type 0} (es : List (RangeEntry V)) (slot : ℕ) (e : RangeEntry V) → Ascends es → EndsFirstFrom es slot e → find (λ f. nat_le slot (end_of f)) es ≡ Some e
 found [] slot e ascends first = absurd (Contains-nil e first.0)
@@ -24,7 +25,4 @@ found (r ∷ rs) slot e ascends first = elim (Contains-cons_cases r rs e first.0
 
 -- The primary of a slot is that of the entry that answers for it.
 pub primary_is : (entries : List (RangeEntry SlotNodes)) (slot : ℕ) (nodes : SlotNodes) → Ascends entries → IsAnswerAt entries slot nodes → primary_of_slot entries slot ≡ Some nodes.primary
-primary_is entries slot nodes ascends answer =
-    let is = found entries slot (answer.start, answer.end, nodes) ascends (EndsFirstFrom-answer entries slot nodes answer) in
-    let starts : nat_le answer.start slot ≡ true = le-leb answer.start slot answer.after_start in
-    ap (option_and_then (primary_from slot)) is ∙ rw starts refl
+primary_is entries slot nodes ascends answer = grind (arith, common_steps, found entries slot (answer.start, answer.end, nodes) ascends (EndsFirstFrom-answer entries slot nodes answer), EndsFirstFrom-answer entries slot nodes answer, nat_le answer.start slot, le-leb answer.start slot answer.after_start)

@@ -1,5 +1,6 @@
 -- The plan of a split command has the rule and the parts of where the command is routed.
-use Rattle.std.proofs.Common.{◌≡◌, ◌⊎◌, inl, inr, ℕ, List, [], Bor, Vec, Global, Option, None, Some, true, map, refl, sym, ap, subst, ◌∙◌}
+use Rattle.std.proofs.Common.{◌≡◌, ◌⊎◌, inl, inr, ℕ, List, [], Bor, Vec, Global, Option, None, Some, true, map, refl, sym, ap, subst, ◌∙◌, arith}
+use Rattle.std.proofs.lemmas.Grind.{common_steps}
 use Rattle.std.specs.Prelude.{IfErr, Result, Ok, Err, option_map}
 use Rattle.std.specs.Result.{IsErrAnd}
 use Rattle.std.specs.List.{AllZip}
@@ -45,22 +46,12 @@ module _ (names : Names) (args : Arguments) (routes : Routes) (pattern : MultiSl
 
   pub same_rule : split.arguments ≡ args → Some split.routes ≡ multi_slot_routes names args → Some split.pattern ≡ pattern_by_name names.registered (command_name args)
       → Some split.policy ≡ policy_by_name names.registered (command_name args) → of_parts split ≡ rule_of args (multi_node (multi_slot routes pattern) policy)
-  same_rule arguments by_routes by_pattern by_policy =
-      let so = split_so names args routes pattern policy is in
-      let the_pattern : split.pattern ≡ pattern = same_Some split.pattern pattern (by_pattern ∙ so.pattern_is) in
-      let the_policy : split.policy ≡ so.own = same_Some split.policy so.own (by_policy ∙ so.own_is) in
-      ap (λ a. of_parts (record { arguments = a; routes = split.routes; pattern = split.pattern; policy = split.policy })) arguments
-      ∙ ap (λ r. of_parts (record { arguments = args; routes = r; pattern = split.pattern; policy = split.policy })) (same_routes by_routes)
-      ∙ ap (λ p. of_parts (record { arguments = args; routes = routes; pattern = p; policy = split.policy })) the_pattern
-      ∙ ap (λ p. of_parts (record { arguments = args; routes = routes; pattern = pattern; policy = p })) the_policy
-      ∙ sym (ap (λ p. rule_of args (multi_node (multi_slot routes pattern) p)) so.policy_is)
+  same_rule arguments by_routes by_pattern by_policy = grind (arith, common_steps, split_so names args routes pattern policy is, same_Some, same_routes by_routes)
 
 -- the nodes of the routes are the targets
 pub split_targets : {S : Type 0} (strategy : Option S) (picks_of : S → Candidates → Address → Type 0) (entries : List (RangeEntry SlotNodes)) (pick : ℕ) (to : Routing) (own routes : Routes) (pattern : MultiSlotArgPattern) (policy : Option ResponsePolicy) (nodes : List Address)
     → to ≡ multi_node (multi_slot routes pattern) policy → own ≡ routes → AllZip (λ route target. IsRouteNode strategy picks_of entries pick route.0 target) own nodes → AreTargets strategy picks_of entries pick to nodes
-split_targets strategy picks_of entries pick to own routes pattern policy nodes is same each =
-    subst (λ r. AreTargets strategy picks_of entries pick r nodes) (sym is)
-    (subst (λ rs. AllZip (λ route target. IsRouteNode strategy picks_of entries pick route.0 target) rs nodes) same each)
+split_targets strategy picks_of entries pick to own routes pattern policy nodes is same each = grind (arith, common_steps)
 
 -- a routing to a node of each slot
 pub as_split : (info : RoutingInfo) (many : MultipleNodeRoutingInfo) (policy : Option ResponsePolicy) (parts : Vec (SlotRoute × Vec ℕ Global) Global × MultiSlotArgPattern) → info ≡ MultiNode (many, policy) → many ≡ MultiSlot parts
@@ -75,9 +66,7 @@ routes_found names args routes found (Some command) is routed by = sym (same_Som
 -- why a split command has no plan
 pub split_fault : (entries : List (RangeEntry SlotNodes)) (names : Names) (args : Arguments) (routes : Routes) (pattern : MultiSlotArgPattern) (policy : Option ResponsePolicy) → routing names args ≡ Some (multi_node (multi_slot routes pattern) policy)
     → (fault : PlanFault) → IsPlanFault entries names args fault → (fault ≡ plan.NotMultiKey → multi_slot_routes names args ≡ None) → IsCommandPlanFault entries names args (fault_of_split fault)
-split_fault entries names args routes pattern policy is plan.NotMultiKey none not_split =
-    let so = split_so names args routes pattern policy is in
-    absurd (none-some routes (sym (not_split refl) ∙ so.routes_are))
+split_fault entries names args routes pattern policy is plan.NotMultiKey none not_split = grind (arith, common_steps, split_so names args routes pattern policy is, none-some)
 split_fault entries names args routes pattern policy is (plan.NotCovered slot) (found, by, first) not_split =
     let so = split_so names args routes pattern policy is in
     let same = routes_found names args routes found (multi_key names.registered args) refl so.routes_are by in

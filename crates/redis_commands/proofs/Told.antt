@@ -1,6 +1,7 @@
 -- Answers, if no target is missing.
-use Rattle.std.proofs.Common.{◌≡◌, ◌⊎◌, inl, inr, ◌+◌, ℕ, List, [], ◌∷◌, ◌++◌, true, false, Option, Some, None, Ok, Err, map, length, refl, sym, ap, subst, ◌∙◌, arith, append_assoc, length-append}
-use Rattle.std.specs.Prelude.{Bool, IfErr, IfOk, OnOk, MatchOption, MatchResult, Result, is_none, slice_get, slice_set}
+use Rattle.std.proofs.Common.{◌≡◌, ◌⊎◌, ◌+◌, ℕ, List, [], ◌∷◌, ◌++◌, true, false, Option, Some, None, Ok, Err, map, length, refl, sym, ap, subst, ◌∙◌, arith, append_assoc, length-append}
+use Rattle.std.proofs.lemmas.Grind.{common_steps}
+use Rattle.std.specs.Prelude.{Bool, IfErr, IfOk, OnOk, MatchResult, Result, is_none, slice_get, slice_set}
 use Rattle.std.specs.Result.{is_err}
 use Rattle.std.proofs.lemmas.List.{append-nil, map-append}
 use Rattle.std.specs.List.{list_any}
@@ -14,7 +15,7 @@ use Rattle.redis_routing.specs.declared.policy.ResponsePolicy.TheVariants.{Combi
 use Rattle.redis_cluster.specs.MultiKey.{ReplyForm}
 use Rattle.redis_cluster.specs.Plan.{Plan, ArePartReplies, ArePartsAnswered, IsMadeOfParts}
 use Rattle.redis_cluster.specs.Unsplit.{TupleResult}
-use Rattle.redis_commands.specs.Rule.{of_parts, takes_memory, IsCombined, IsJoinedOf, IsReplyBy}
+use Rattle.redis_commands.specs.Rule.{of_parts, IsCombined, IsReplyBy}
 use Rattle.redis_commands.specs.Answers.{answers_given, values_in, first_error}
 
 -- what holds of a success, if there is none while an answer is missing
@@ -83,34 +84,15 @@ none_so_far plan told rest same long untouched all = record {
 module _ (split : Split) (told : List (Option (Result Value ErrorParts))) (plan : Plan) (number : ℕ) (rest later : List (Option (Result Value ErrorParts))) (so : AreSoFar split told plan number rest) where
   -- the next part has not answered
   pub still_untold : (part : Option (Result Value ErrorParts)) → rest ≡ part ∷ later → slice_get plan.replies number ≡ Some None
-  still_untold part first =
-      ap (λ rs. slice_get rs number) (so.replies_are ∙ ap (replies_after so.values) first)
-      ∙ ap (slice_get (replies_after so.values (part ∷ later))) (sym so.number_is)
-      ∙ next_untold so.values part later
+  still_untold part first = grind (arith, common_steps, next_untold so.values part later)
 
   -- and then it has
   pub one_more : (value : Value) (new : Plan) → rest ≡ Some (Ok value) ∷ later → new.split ≡ plan.split → new.replies ≡ slice_set plan.replies number (Some value) → AreSoFar split told new (number + 1) later
-  one_more value new first same set = record {
-    values = so.values ++ value ∷ [];
-    split_is = same ∙ so.split_is;
-    replies_are =
-        set ∙ ap (λ rs. slice_set rs number (Some value)) (so.replies_are ∙ ap (replies_after so.values) first)
-        ∙ ap (λ n. slice_set (replies_after so.values (Some (Ok value) ∷ later)) n (Some value)) (sym so.number_is)
-        ∙ next_told so.values value (Some (Ok value)) later;
-    number_is = length-append so.values (value ∷ []) ∙ ap (λ n. n + 1) so.number_is;
-    count = omega (arith, so.count, ap length first);
-    answers_are =
-        so.answers_are ∙ ap (λ r. map (λ v. Ok (view v)) so.values ++ answers_given r) first
-        ∙ sym (append_assoc (map (λ v. Ok (view v)) so.values) (Ok (view value) ∷ []) (answers_given later))
-        ∙ ap (λ os. os ++ answers_given later) (sym (map-append (λ v. Ok (view v)) so.values (value ∷ [])));
-    all = sym (ap (list_any is_none) first) ∙ so.all;
-  }
+  one_more value new first same set = grind (arith, common_steps, next_told so.values value (Some (Ok value)) later, length-append so.values (value ∷ []), append_assoc, map-append)
 
   -- the next one answered an error, which is the first
   pub stopped : (error : ErrorParts) → rest ≡ Some (Err error) ∷ later → first_error (answers_given told) ≡ Some error
-  stopped error first =
-      ap first_error (so.answers_are ∙ ap (λ r. map (λ v. Ok (view v)) so.values ++ answers_given r) first)
-      ∙ no_error_before so.values (Err error ∷ answers_given later)
+  stopped error first = grind (arith, no_error_before)
 
   -- all have answered values
   pub all_replies : rest ≡ [] → plan.replies ≡ map Some so.values
@@ -124,39 +106,16 @@ pub joined : (split own : Split) (targets : List Address) (answers : List Answer
     MatchResult result (λ value. IsMadeOfParts own (map view values) (Ok (view value)))
     (λ error. ((error ≡ out_of_memory) × (own.policy ≡ CombineArrays)) ⊎ IsMadeOfParts own (map view values) (Err error.kind)) →
     IsCombined (of_parts split) targets answers result
-joined split own targets answers values result same are made = by result made
-  where
-    at_split : (P : Split → Type 0) → P own → P split
-    at_split P holds = subst P same holds
-
-    reply : (r : Result Value ErrorParts) → IsJoinedOf split (map view values) r → IsReplyBy (of_parts split) targets answers r
-    reply r is =
-        let none : first_error answers ≡ None = ap first_error are ∙ no_error values in
-        let all : values_in answers ≡ map view values = ap values_in are ∙ each_value values in
-        subst (λ o. MatchOption o (IsJoinedOf split (values_in answers) r) (λ error. r ≡ Err error)) (sym none)
-        (subst (λ vs. IsJoinedOf split vs r) (sym all) is)
-
-    by : (r : Result Value ErrorParts) → MatchResult r (λ value. IsMadeOfParts own (map view values) (Ok (view value)))
-        (λ error. ((error ≡ out_of_memory) × (own.policy ≡ CombineArrays)) ⊎ IsMadeOfParts own (map view values) (Err error.kind)) → IsCombined (of_parts split) targets answers r
-    by (Ok value) is = inr (reply (Ok value) (at_split (λ s. IsMadeOfParts s (map view values) (Ok (view value))) is))
-    by (Err error) (inl memory) = inl (ap Err memory.0, ap (λ p. takes_memory (of_parts (record { arguments = split.arguments; routes = split.routes; pattern = split.pattern; policy = p }))) (at_split (λ s. s.policy ≡ CombineArrays) memory.1), ap first_error are ∙ no_error values)
-    by (Err error) (inr is) = inr (reply (Err error) (at_split (λ s. IsMadeOfParts s (map view values) (Err error.kind)) is))
+joined split own targets answers values result same are made = grind (arith, no_error, each_value)
 
 -- the plan of a split command whose parts answered values has these replies
 pub plan_replies : (split : Split) (plan : Plan) (answers : List Answer) (values : List Value) (form : ReplyForm) (results : List TupleResult) → plan.split ≡ split → answers ≡ map (λ v. Ok (view v)) values → plan.replies ≡ map Some values
     → ArePartsAnswered split form results (values_in answers) → ArePartReplies plan form results
-plan_replies split plan answers values form results same are told answered = record {
-  replies = values;
-  all_told = told;
-  answered = subst (ArePartsAnswered plan.split form results) (ap values_in are ∙ each_value values)
-      (subst (λ s. ArePartsAnswered s form results (values_in answers)) (sym same) answered);
-}
+plan_replies split plan answers values form results same are told answered = grind (arith, each_value)
 
 -- the reply of a split command is the first error, if there is one
 pub only_error : (split : Split) (targets : List Address) (answers : List Answer) (error : ErrorParts) → first_error answers ≡ Some error → IsReplyBy (of_parts split) targets answers (Err error)
-only_error split targets answers error is =
-    let returned : Result Value ErrorParts = Err error in
-    subst (λ o. MatchOption o (IsJoinedOf split (values_in answers) returned) (λ e. returned ≡ Err e)) (sym is) (ap Err refl)
+only_error split targets answers error is = grind (arith)
 
 -- what holds of the error, or of a success
 pub err_there : {T E : Type 0} (P : E → Type 0) (r : Result T E) → is_err r ≡ true → IfErr r P → (e : E) × P e

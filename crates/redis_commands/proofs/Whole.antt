@@ -1,5 +1,6 @@
 -- The measures of the parts of a keyspace make one of the whole.
-use Rattle.std.proofs.Common.{◌≡◌, ℕ, Bool, true, false, not, cond, ◌||◌, nat_le, inl, inr, List, [], ◌∷◌, filter, map, Option, Some, None, refl, sym, ap, subst, ◌∙◌}
+use Rattle.std.proofs.Common.{◌≡◌, ℕ, Bool, true, false, not, cond, ◌||◌, nat_le, inl, inr, List, [], ◌∷◌, filter, map, Option, Some, None, refl, sym, ap, subst, ◌∙◌, arith}
+use Rattle.std.proofs.lemmas.Grind.{common_steps}
 use Rattle.std.specs.Prelude.{◌≢◌}
 use Rattle.std.specs.List.{list_any}
 use Rattle.std.proofs.lemmas.Option.{none-some, same_Some}
@@ -38,9 +39,7 @@ distinct_filter p (x ∷ xs) d = by_test (p x)
 
 none_left : (x : Address) (xs : List Address) → list_any (same_address x) (filter (λ y. not (same_address y x)) xs) ≡ false
 none_left x [] = refl
-none_left x (y ∷ ys) = by_test (same_address y x)
-    (λ t. rw t (none_left x ys))
-    (λ t. let other : same_address x y ≡ false = same_sym x y ∙ t in rw (t, other) (none_left x ys))
+none_left x (y ∷ ys) = grind (arith, common_steps, by_test, same_sym, none_left x ys)
 
 once_distinct : (xs : List Address) → Distinct (each_once xs)
 once_distinct [] = tt
@@ -128,10 +127,7 @@ all_there : {C : Type 0} (entries : List (RangeEntry SlotNodes)) (keyspace : Key
 all_there entries keyspace served key None is = by_test (among entries (primaries_in entries) (key_slot key))
     (λ t. rw t refl)
     (λ t. rw t (sym (none_there entries keyspace served key is (keyspace key) refl)))
-all_there entries keyspace served key (Some p) is =
-    let has : list_any (same_address p) (primaries_in entries) ≡ true = once_has p (map primary entries) ∙ is_there (key_slot key) entries p is in
-    let here : among entries (primaries_in entries) (key_slot key) ≡ true = ap (λ o. list_any (λ n. is_it n o) (primaries_in entries)) is ∙ has in
-    rw here refl
+all_there entries keyspace served key (Some p) is = grind (arith, common_steps, once_has p (map primary entries), is_there (key_slot key) entries p is)
 
 -- The law of the whole keyspace: if each primary of a map measures its part, the measures make one of
 -- the whole.

@@ -1,5 +1,5 @@
 -- Two tables that have the same rows in another order.
-use Rattle.std.proofs.Common.{◌≡◌, ℕ, List, [], ◌∷◌, Bool, true, false, Option, None, Some, refl, sym, ap, ◌∙◌, map}
+use Rattle.std.proofs.Common.{◌≡◌, ℕ, List, [], ◌∷◌, Bool, true, Option, Some, sym, ap, ◌∙◌, map, arith}
 use Rattle.std.specs.Prelude.{option_and_then}
 use Rattle.std.specs.Str.{bytes_eq}
 use Rattle.std.proofs.lemmas.Slice.Eq.{bytes_eq-Decides}
@@ -29,9 +29,7 @@ module _ {A B : Type 0} (part : A → Option B) where
       carried_back xs ys rest n b (rw unlike at h))
 
   by_option : (p q : Option B) → ((b : B) → p ≡ Some b → q ≡ Some b) → ((b : B) → q ≡ Some b → p ≡ Some b) → p ≡ q
-  by_option (Some b) q f g = sym (f b refl)
-  by_option None (Some b) f g = g b refl
-  by_option None None f g = refl
+  by_option p q h1 h2 = grind (arith)
 
   -- a part of the rows of the one is the rows of the other
   pub agree : (xs : List (List ℕ × A)) (ys : List (List ℕ × B)) → map (λ x. lookup_name ys x.0) xs ≡ map (λ x. part x.1) xs → map (λ y. option_and_then part (lookup_name xs y.0)) ys ≡ map (λ y. Some y.1) ys → (n : List ℕ) → option_and_then part (lookup_name xs n) ≡ lookup_name ys n
@@ -45,9 +43,7 @@ carried_name (x ∷ xs) ys same n h =
     (λ unlike. let rest : map (has_name ys) xs ≡ map (λ x. true) xs = cc same in carried_name xs ys rest n (rw unlike at h))
 
 by_bool : (p q : Bool) → (p ≡ true → q ≡ true) → (q ≡ true → p ≡ true) → p ≡ q
-by_bool true q f g = sym (f refl)
-by_bool false true f g = g refl
-by_bool false false f g = refl
+by_bool p q h1 h2 = grind (arith)
 
 pub agree_names : (xs ys : List (List ℕ)) → map (has_name ys) xs ≡ map (λ x. true) xs → map (has_name xs) ys ≡ map (λ y. true) ys → (n : List ℕ) → has_name xs n ≡ has_name ys n
 agree_names xs ys there back n = by_bool (has_name xs n) (has_name ys n) (carried_name xs ys there n) (carried_name ys xs back n)

@@ -18,9 +18,7 @@ argument-map-Some (x ∷ items) (suc i) = argument-map-Some items i
 
 -- of the items of an array
 argument-map : (items : List Reply) (i : ℕ) (d : Reply) → i < length items → argument (map bulk_string_of items) i ≡ bulk_string_of (get_or items i d)
-argument-map [] i d h = absurd (omega arith)
-argument-map (x ∷ items) zero d h = refl
-argument-map (x ∷ items) (suc i) d h = argument-map items i d (omega arith)
+argument-map items i d h1 = grind (arith, common_steps)
 
 -- the arguments that a value is
 abbrev pub arguments_of_value : Value → Arguments

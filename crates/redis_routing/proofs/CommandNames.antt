@@ -36,11 +36,7 @@ words_alone first (Some second) alone = rw alone refl
 -- where arguments follow the words of a name, these words have the name again, whatever follows, and are as many
 pub words_again : (args : Arguments) → 0 < length (present_arguments args) → (other : Arguments)
     → (command_name (take (name_words_of args) args ++ other) ≡ command_name args) × (name_words_of (take (name_words_of args) args ++ other) ≡ name_words_of args)
-words_again [] some other = absurd (omega (arith, some))
-words_again (None ∷ rest) some other = (refl, refl)
-words_again (Some first ∷ []) some other = absurd (omega (arith, some))
-words_again (Some first ∷ None ∷ rest) some other = absurd (omega (arith, some))
-words_again (Some first ∷ Some second ∷ rest) some other = grind (arith, common_steps)
+words_again args h1 other = grind (arith, common_steps)
 
 -- a name is longer than its first word just where it takes a second one
 by_length : (first : List ℕ) (second : Option (List ℕ))

@@ -1,6 +1,6 @@
 -- The slot of a command by itself is the one that its routing has.
-use Rattle.std.proofs.Common.{◌≡◌, ℕ, zero, suc, ◌+◌, ◌*◌, ◌/◌, ◌%◌, List, [], ◌∷◌, Bool, true, false, cond, Option, Some, None, map, option_map, length, take, get_or, refl, ap, ◌∙◌, arith}
-use Rattle.std.specs.Prelude.{codes, nat_eq, nat_lt, option_and_then, position, ◌&&◌}
+use Rattle.std.proofs.Common.{◌≡◌, ℕ, zero, suc, ◌+◌, ◌*◌, ◌/◌, ◌%◌, List, [], ◌∷◌, Bool, true, false, cond, Option, Some, None, map, option_map, length, take, get_or, refl, ap, arith}
+use Rattle.std.specs.Prelude.{codes, nat_eq, nat_lt, option_and_then, position}
 use Rattle.std.specs.Option.{option_or}
 use Rattle.std.specs.Simd.{first_chunks}
 use Rattle.std.proofs.Math.Seq.{take-length}
@@ -10,7 +10,6 @@ use Rattle.cluster_slots.specs.KeySlot.{key_slot}
 use Rattle.cluster_slots.specs.Number.{number_in}
 use Rattle.cluster_slots.specs.ArgPattern.{fits}
 use Rattle.cluster_slots.specs.declared.arg_pattern.MultiSlotArgPattern.{MultiSlotArgPattern}
-use Rattle.cluster_slots.specs.declared.arg_pattern.MultiSlotArgPattern.TheVariants.{KeysOnly, KeyValuePairs, KeysAndLastArg, KeyWithTwoArgTriples}
 use Rattle.redis_routing.specs.Command.{Arguments, argument, command_name, is_word}
 use Rattle.redis_routing.specs.CommandSlot.{command_slot, command_keys, only_number, slot_by}
 use Rattle.redis_routing.specs.Lookup.{lookup_name}
@@ -35,9 +34,7 @@ of_key_or_any reads None = refl
 of_key_or_any reads (Some key) = refl
 
 of_count : (reads : Bool) (count : Option ℕ) (key : Option (List ℕ)) → slot_routed (by_count reads count key) ≡ option_and_then (λ n. cond (nat_eq n 0) None (option_map key_slot key)) count
-of_count reads None key = refl
-of_count reads (Some zero) key = refl
-of_count reads (Some (suc n)) key = grind (arith, common_steps)
+of_count reads count key = grind (arith, common_steps)
 
 number_of : (bits : ℕ) (text : Option (List ℕ)) → argument_number bits text ≡ option_and_then (number_in bits) text
 number_of bits None = refl
@@ -58,9 +55,7 @@ of_slot (Some n) = of_test (nat_lt n 16384) _
 -- one route goes to its slot, and several to no single one
 of_routes : (reads : Bool) (policy : Option ResponsePolicy) (pattern : MultiSlotArgPattern) (present : List (List ℕ)) (slots : List ℕ)
     → slot_routed (Some (routing_of_routes pattern policy (map (route_of_slot reads pattern present) slots))) ≡ only_number slots
-of_routes reads policy pattern present [] = refl
-of_routes reads policy pattern present (slot ∷ []) = refl
-of_routes reads policy pattern present (slot ∷ other ∷ slots) = refl
+of_routes reads policy pattern present slots = grind (arith)
 
 -- the slot of these keys, if they all have one
 abbrev slot_of_keys : List (List ℕ) → Option ℕ
@@ -102,27 +97,7 @@ of_alone keys = ap (λ slots. only_number (first_appearances slots)) (alone 0 ke
 
 -- the slot of the tuples, if they are whole
 of_tuples : (pattern : MultiSlotArgPattern) (present : List (List ℕ)) → cond (fits pattern (length present)) (only_number (first_appearances (map slot_of (tuples_in pattern present)))) None ≡ slot_of_keys (command_keys pattern present)
-of_tuples KeysOnly [] = refl
-of_tuples KeysOnly (x ∷ xs) =
-    let present : List (List ℕ) = x ∷ xs in
-    let some : nat_lt 0 (length present) ≡ true = grind (arith, nat_tests) in
-    ap (λ b. cond b (only_number (first_appearances (map slot_of (keys_alone 0 (take (length present) present))))) None) some
-    ∙ of_alone (take (length present) present) ∙ ap slot_of_keys (take-length present)
-of_tuples KeyValuePairs [] = refl
-of_tuples KeyValuePairs (x ∷ xs) =
-    let present : List (List ℕ) = x ∷ xs in
-    let some : nat_lt 0 (length present) ≡ true = grind (arith, nat_tests) in
-    ap (λ b. cond (b && nat_eq (length present % 2) 0) (only_number (first_appearances (map slot_of (keys_and_values 0 (take (length present) present))))) None) some
-    ∙ by_pairs present (nat_eq (length present % 2) 0) refl
-of_tuples KeysAndLastArg [] = refl
-of_tuples KeysAndLastArg (x ∷ []) = refl
-of_tuples KeysAndLastArg (x ∷ y ∷ xs) = grind (arith, nat_tests, of_alone)
-of_tuples KeyWithTwoArgTriples [] = refl
-of_tuples KeyWithTwoArgTriples (x ∷ xs) =
-    let present : List (List ℕ) = x ∷ xs in
-    let some : nat_lt 0 (length present) ≡ true = grind (arith, nat_tests) in
-    ap (λ b. cond (b && nat_eq (length present % 3) 0) (only_number (first_appearances (map slot_of (keys_and_two 0 (take (length present) present))))) None) some
-    ∙ by_triples present (nat_eq (length present % 3) 0) refl
+of_tuples pattern present = grind (arith, nat_tests, of_alone, take-length, by_pairs, by_triples)
 
 of_slots : (reads : Bool) (policy : Option ResponsePolicy) (pattern : MultiSlotArgPattern) (present : List (List ℕ)) → slot_routed (to_slots reads policy pattern present) ≡ slot_of_keys (command_keys pattern present)
 of_slots reads policy pattern present = grind (arith, of_test, of_routes, of_tuples)

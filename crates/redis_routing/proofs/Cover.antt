@@ -1,6 +1,6 @@
 -- The lists of the routes of a split ascend and share out the places of the present arguments, and each gives the arguments of its part.
 use Rattle.std.proofs.Common.{◌≡◌, ℕ, zero, suc, ◌+◌, ◌-◌, ◌%◌, ◌<◌, ◌≤◌, List, [], ◌∷◌, ◌++◌, Bool, true, false, not, cond, ◌||◌, refl, sym, ap, ◌∙◌, arith, length, map, take, drop, get_or, filter, Less, inl, inr, drop-cons, drop_of_length-le, add-one}
-use Rattle.std.specs.Prelude.{nat_eq, nat_lt, count_by, All}
+use Rattle.std.specs.Prelude.{nat_eq, count_by, All}
 use Rattle.std.specs.List.{AllByRecursion, list_any, flat_map, range_with_len}
 use Rattle.std.specs.List.Sorted.{IsStrictlySortedBy}
 use Rattle.std.specs.Ordering.{nat_cmp}
@@ -60,14 +60,7 @@ count_kept s n (m ∷ ns) apart = grind (arith, common_steps, count_kept s n ns 
 
 -- how often a number stands in a list that another one heads, and that has it no second time
 count_first : (s n : ℕ) (ns : List ℕ) → count_by (nat_eq s) (n ∷ filter (λ k. not (nat_eq n k)) ns) ≡ cond (nat_eq s n) 1 (count_by (nat_eq s) ns)
-count_first s n ns =
-    let others = filter (λ k. not (nat_eq n k)) ns in
-    by_test (nat_eq s n)
-    (λ same.
-    let e : n ≡ s = sym (eqb-true s n same) in
-    let gone : count_by (nat_eq s) others ≡ 0 = ap (λ m. count_by (nat_eq s) (filter (λ k. not (nat_eq m k)) ns)) e ∙ count_gone s ns in
-    count_yes (nat_eq s) n others same ∙ ap (λ c. 1 + c) gone ∙ sym (ap (λ b. cond b 1 (count_by (nat_eq s) ns)) same))
-    (λ other. count_no (nat_eq s) n others other ∙ count_kept s n ns other ∙ sym (ap (λ b. cond b 1 (count_by (nat_eq s) ns)) other))
+count_first s n ns = grind (arith, common_steps, by_test, eqb-true, count_gone, count_yes, count_no, count_kept)
 
 -- each number stands once among the firsts
 pub count_firsts : (s : ℕ) (ns : List ℕ) → count_by (nat_eq s) (first_appearances ns) ≡ cond (list_any (nat_eq s) ns) 1 0
@@ -158,10 +151,7 @@ tiles_from KeyWithTwoArgTriples low present even = tiles_triples low present eve
 
 -- the arguments that make tuples come out even
 pub own_whole : (pattern : MultiSlotArgPattern) (m : ℕ) → fits pattern m ≡ true → tuple_args_count pattern m % width_of pattern ≡ 0
-own_whole KeysOnly m h = omega arith
-own_whole KeyValuePairs m h = eqb-true (m % 2) 0 (and_second (nat_lt 0 m) (nat_eq (m % 2) 0) h)
-own_whole KeysAndLastArg m h = omega arith
-own_whole KeyWithTwoArgTriples m h = eqb-true (m % 3) 0 (and_second (nat_lt 0 m) (nat_eq (m % 3) 0) h)
+own_whole pattern m h1 = grind (arith, eqb-true, and_second)
 
 -- the tuples stand side by side from the first place on
 pub tiles_present : (pattern : MultiSlotArgPattern) (present : List (List ℕ)) → fits pattern (length present) ≡ true → Tiles 0 (tuple_args_count pattern (length present)) (tuples_in pattern present)
@@ -251,9 +241,7 @@ module _ (pattern : MultiSlotArgPattern) (present : List (List ℕ)) where
     in_each p from to = by_slots p ∙ count_all (has_place p) (first_appearances key_slots) (λ s. has_shared p s from to) ∙ sym (simp length-map)
 
     one_route : (slot : ℕ) → count_by (λ r. nat_eq slot r.0.slot) (routes_of reads pattern present) ≤ 1
-    one_route slot =
-        let e = count-map (λ r. nat_eq slot r.0.slot) (route_of_slot reads pattern present) (first_appearances key_slots) ∙ count_firsts slot key_slots in
-        rw e (by_test (list_any (nat_eq slot) key_slots) (λ yes. rw yes (omega arith)) (λ none. rw none (omega arith)))
+    one_route slot = grind (arith, common_steps, count-map, count_firsts slot key_slots, by_test)
 
     module _ (whole : fits pattern (length present) ≡ true) where
       places_between : (s : ℕ) → Between 0 (length present) (places_in_slot pattern present s)

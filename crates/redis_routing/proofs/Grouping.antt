@@ -156,7 +156,4 @@ module _ (items : List (SlotRoute × Vec ℕ Global)) (index : ℕ) (inside : in
   -- the lists as they are kept, where that of a slot gets the places
   pub lists_longer : (route : SlotRoute) (places : List ℕ) (longer : Vec ℕ Global) → index ≡ position_or_len (nat_eq route.slot) (slots_of (route_lists items)) → longer.items ≡ item.1.items ++ places
       → route_lists (set items index (item.0, longer)) ≡ with_places route places (route_lists items)
-  lists_longer route places longer place pushed =
-      map-set route_list items index (item.0, longer)
-      ∙ ap (λ ps. set (route_lists items) index (item.0, ps)) pushed
-      ∙ sym (places_added route places (route_lists items) index (route_list item) place within ∙ ap (λ (r : RouteList). set (route_lists items) index (r.0, r.1 ++ places)) list_at)
+  lists_longer route places longer place pushed = grind (arith, common_steps, map-set route_list items index (item.0, longer), longer, places_added route places (route_lists items) index (route_list item) place within, within, list_at)

@@ -1,5 +1,6 @@
 -- A set of names after an insert.
-use Rattle.std.proofs.Common.{◌≡◌, ℕ, List, [], ◌∷◌, map, Bool, true, false, ◌||◌, Vec, Global, Ordering, refl, sym, ap, ◌∙◌, arith}
+use Rattle.std.proofs.Common.{◌≡◌, ℕ, List, [], ◌∷◌, map, Bool, true, false, ◌||◌, Vec, Global, Ordering, refl, ap, ◌∙◌, arith}
+use Rattle.std.proofs.lemmas.Grind.{common_steps}
 use Rattle.std.specs.Ordering.{nat_cmp, is_eq}
 use Rattle.std.specs.Cmp.Lexicographic.{slice_cmp}
 use Rattle.std.specs.Str.{bytes_eq}
@@ -43,6 +44,4 @@ among_keys q (k ∷ ks) = ap (λ b. b || list_any (at q) ks) (is_eq-slice_cmp q 
 
 -- the names after an insert
 pub among-insert : (q name : List ℕ) (k : Vec ℕ Global) (ks after : List (Vec ℕ Global)) → after ≡ insert_key by_items ks k → k.items ≡ name → is_among (map (λ k. k.items) after) q ≡ (bytes_eq q name || is_among (map (λ k. k.items) ks) q)
-among-insert q name k ks after keys items =
-    sym (among_keys q after) ∙ ap (list_any (at q)) keys ∙ is_in-insert q k ks
-    ∙ ap (λ b. bytes_eq q k.items || b) (among_keys q ks) ∙ ap (λ t. bytes_eq q t || is_among (map (λ k. k.items) ks) q) items
+among-insert q name k ks after keys items = grind (arith, common_steps, among_keys q after, among_keys q ks, is_in-insert)

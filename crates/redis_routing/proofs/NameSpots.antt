@@ -6,7 +6,7 @@ use Rattle.std.proofs.lemmas.Slice.Eq.{bytes_eq-Decides}
 use Rattle.std.proofs.lemmas.Grind.{common_steps}
 use Rattle.redis_routing.specs.ReadOnly.{is_among}
 use Rattle.redis_routing.specs.Inner.NameSpots.{Tree, spot_of, names_of, names_in, is_in, AreAtTheirSpots}
-use Rattle.resp_core.proofs.Cases.{by_test, or_swap}
+use Rattle.resp_core.proofs.Cases.{by_test}
 
 -- an empty tree more changes nothing
 
@@ -29,11 +29,7 @@ IsOneMore name tree after = (q : List ℕ) → is_among (names_of after) q ≡ (
 pub among-set : (name : List ℕ) (trees : List Tree) (at : ℕ) (tree after : Tree) → slice_get trees at ≡ Some tree → IsOneMore name tree after → (q : List ℕ) → is_among (names_in (set trees at after)) q ≡ (bytes_eq q name || is_among (names_in trees) q)
 among-set name [] at tree after there more q = cc
 among-set name (t ∷ trees) zero tree after there more q = grind (arith, common_steps, list_any-append, more q)
-among-set name (t ∷ trees) (suc at) tree after there more q =
-    list_any-append (bytes_eq q) (names_of t) (names_in (set trees at after))
-    ∙ ap (λ b. is_among (names_of t) q || b) (among-set name trees at tree after there more q)
-    ∙ or_swap (is_among (names_of t) q) (bytes_eq q name) (is_among (names_in trees) q)
-    ∙ ap (λ b. bytes_eq q name || b) (sym (list_any-append (bytes_eq q) (names_of t) (names_in trees)))
+among-set name (t ∷ trees) (suc at) tree after there more q = grind (arith, common_steps, among-set name trees)
 
 get_set : (trees : List Tree) (at : ℕ) (tree after : Tree) → slice_get trees at ≡ Some tree → slice_get (set trees at after) at ≡ Some after
 get_set [] at tree after there = cc

@@ -76,10 +76,7 @@ free_row name w (Some r) way may = absurd (cc (way, free_name name r.1 may))
 -- another name of the tables, under a registry whose names can be registered
 pub found_none : (registered : Registrations) (name : List ℕ) (w : RouteBy) → base_routing name ≡ Some w → pattern_of (Some w) ≡ None
     → IfSome (lookup_name registered name) (λ r. is_registrable name r.1 ≡ true) → split_of registered name ≡ None
-found_none registered name w way none may =
-    by_both registered name (Some w) (policy_of name) way refl
-    ∙ ap (λ o. or_else o (lookup_name registered name)) (no_pattern (pattern_of (Some w)) (policy_of name) none)
-    ∙ free_row name w (lookup_name registered name) way may
+found_none registered name w way none may = grind (arith, common_steps, by_both registered name (Some w) (policy_of name) way refl, no_pattern (pattern_of (Some w)) (policy_of name) none, free_row name w (lookup_name registered name) way may)
 
 -- a name that the tables don't have is none of the nine
 none_of_nine : (name : List ℕ) → base_routing name ≡ None → lookup_name multi_key_names name ≡ None

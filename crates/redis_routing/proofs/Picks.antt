@@ -8,7 +8,6 @@ use Rattle.cluster_slots.specs.SlotRoute.{SlotRoute}
 use Rattle.cluster_slots.specs.Lists.{all_some}
 use Rattle.cluster_slots.specs.ArgPattern.{fits, is_complete}
 use Rattle.cluster_slots.specs.declared.arg_pattern.MultiSlotArgPattern.{MultiSlotArgPattern}
-use Rattle.cluster_slots.specs.declared.arg_pattern.MultiSlotArgPattern.TheVariants.{KeysOnly, KeyValuePairs, KeysAndLastArg, KeyWithTwoArgTriples}
 use Rattle.redis_routing.specs.Command.{Arguments, HasWords, argument, command_name}
 use Rattle.redis_routing.specs.Laws.{ArePartsPicked}
 use Rattle.redis_routing.specs.Names.{Names}
@@ -69,10 +68,7 @@ parts_picked args reads pattern name whole = λ k d inside.
     rw is (part_picked args pattern (get_or slots k 0) name whole)
 
 pub complete_fits : (pattern : MultiSlotArgPattern) (m : ℕ) → is_complete pattern m ≡ true → fits pattern m ≡ true
-complete_fits KeysOnly m h = h
-complete_fits KeyValuePairs m h = h
-complete_fits KeysAndLastArg m h = grind (arith, nat_tests)
-complete_fits KeyWithTwoArgTriples m h = h
+complete_fits pattern m h1 = grind (arith, nat_tests)
 
 -- the sub-commands of a complete command
 pub complete_sub_commands : (names : Names) (args : Arguments) (routes : List (SlotRoute × List ℕ)) → multi_slot_routes names args ≡ Some routes → AreSubCommands names.registered args routes

@@ -36,19 +36,14 @@ found_row q (row ∷ rows) = grind (arith, at, is_eq-slice_cmp, bytes_eq-swap, f
 -- what is found could be registered
 pub found_registrable : (q : List ℕ) (rows : List Row) → list_all may_stand rows ≡ true → IfSome (lookup_name (map row_of rows) q) (λ r. is_registrable q r.1 ≡ true)
 found_registrable q [] h = tt
-found_registrable q (row ∷ rows) h =
-    by_test (bytes_eq row.0.items q)
-    (λ equal. rw equal (ap (λ n. is_registrable n row.1.1) (sym ((bytes_eq-Decides row.0.items q).0 equal)) ∙ and_first (may_stand row) (list_all may_stand rows) h))
-    (λ unlike. rw unlike (found_registrable q rows (and_second (may_stand row) (list_all may_stand rows) h)))
+found_registrable q (row ∷ rows) h = grind (arith, common_steps, by_test, bytes_eq-Decides, and_first, and_second, found_registrable q rows (and_second (may_stand row) (list_all may_stand rows) h))
 
 cond_twice : {X : Type 0} (b : Bool) (x y z : X) → cond b x z ≡ cond b x (cond b y z)
 cond_twice true x y z = refl
 cond_twice false x y z = refl
 
 cond_apart : {X : Type 0} (a b : Bool) (x y z : X) → (a ≡ true → b ≡ false) → cond a x (cond b y z) ≡ cond b y (cond a x z)
-cond_apart true true x y z apart = absurd (cc (apart refl))
-cond_apart true false x y z apart = refl
-cond_apart false b x y z apart = refl
+cond_apart a b x y z h1 = grind (arith)
 
 pub same_key : (k x : Vec ℕ Global) → by_items k x ≡ Ordering.Equal → k.items ≡ x.items
 same_key k x h = (bytes_eq-Decides k.items x.items).0 (sym (is_eq-slice_cmp k.items x.items) ∙ ap is_eq h)
@@ -77,11 +72,7 @@ both_true false b h l = h
 -- what may be registered stands among such
 pub registrable-insert_entry : (k : Vec ℕ Global) (r : Registered) (rows : List Row) → is_registrable k.items r.1 ≡ true → list_all may_stand rows ≡ true → list_all may_stand (insert_entry by_items rows k r) ≡ true
 registrable-insert_entry k r [] new old = both_true (is_registrable k.items r.1) true new refl
-registrable-insert_entry k r (row ∷ rows) new old = by_order (by_items k row.0)
-    (λ less. rw less (both_true (is_registrable k.items r.1) (list_all may_stand (row ∷ rows)) new old))
-    (λ equal. rw equal (both_true (is_registrable row.0.items r.1) (list_all may_stand rows) (ap (λ n. is_registrable n r.1) (sym (same_key k row.0 equal)) ∙ new) (and_second (may_stand row) (list_all may_stand rows) old)))
-    (λ greater. rw greater (both_true (may_stand row) (list_all may_stand (insert_entry by_items rows k r)) (and_first (may_stand row) (list_all may_stand rows) old)
-    (registrable-insert_entry k r rows new (and_second (may_stand row) (list_all may_stand rows) old))))
+registrable-insert_entry k r (row ∷ rows) new old = grind (arith, common_steps, by_order, by_items, both_true, same_key, and_second, and_first, registrable-insert_entry k r rows new (and_second (may_stand row) (list_all may_stand rows) old))
 
 -- a name without a row adds one
 pub one_more : (before : Option Registered) (rows after : List Row) → before ≡ None → length after ≡ length rows + (if is_some before then 0 else 1) → length (map row_of after) ≡ length (map row_of rows) + 1

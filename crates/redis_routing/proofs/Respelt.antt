@@ -32,9 +32,7 @@ table_behind_first name = each_row (λ n w. behind_first w) (λ n. refl) base_ro
 
 -- that of a registered name is split by slot
 or_behind_first : (w : Option RouteBy) (registered : Option Registered) → behind_first w ≡ true → behind_first (routing_or w registered) ≡ true
-or_behind_first None None later = refl
-or_behind_first None (Some r) later = refl
-or_behind_first (Some w) registered later = later
+or_behind_first w registered h1 = grind (arith)
 
 each_behind_first : (registered : Registrations) (name : List ℕ) → behind_first ((tables_with registered).route_by name) ≡ true
 each_behind_first registered name = or_behind_first (base_routing name) (lookup_name registered name) (table_behind_first name)

@@ -6,15 +6,11 @@ use Rattle.std.proofs.lemmas.Map.Lookups.{btree_map_read_from_get}
 use Rattle.std.proofs.lemmas.Bool.Decides.{Decides-eqb, Decides-and, Decides-like}
 use Rattle.std.proofs.lemmas.Slice.Eq.{bytes_eq-Decides, slice_eq-Decides}
 use Rattle.std.proofs.lemmas.Grind.{common_steps}
-use Rattle.cluster_slots.specs.declared.aggregate_op.AggregateOp.TheVariants.{Min, Sum}
-use Rattle.cluster_slots.specs.declared.aggregate_op.LogicalAggregateOp.TheVariants.{And, Or}
 use Rattle.cluster_slots.specs.declared.arg_pattern.MultiSlotArgPattern.{MultiSlotArgPattern}
-use Rattle.cluster_slots.specs.declared.arg_pattern.MultiSlotArgPattern.TheVariants.{KeysOnly, KeyValuePairs, KeysAndLastArg, KeyWithTwoArgTriples}
 use Rattle.cluster_slots.specs.contracts.arg_pattern.MultiSlotArgPatternPartialEq.TheImpl as pattern_eq
 use Rattle.redis_routing.specs.Registry.{Registrations, Registered}
 use Rattle.redis_routing.specs.SameRegistrations.{pattern_place, same_policy, same_row, same_registrations}
 use Rattle.redis_routing.specs.declared.policy.ResponsePolicy.{ResponsePolicy}
-use Rattle.redis_routing.specs.declared.policy.ResponsePolicy.TheVariants.{OneSucceeded, FirstSucceededNonEmptyOrAllEmpty, AllSucceeded, AggregateLogical, Aggregate, CombineArrays, Special, CombineMaps}
 use Rattle.redis_routing.specs.contracts.policy.ResponsePolicyPartialEq.TheImpl as policy_eq
 use Rattle.redis_routing.specs.Lookup.{lookup_name}
 use Rattle.redis_routing.proofs.NameSets.{by_items}
@@ -22,47 +18,19 @@ use Rattle.redis_routing.proofs.Registrations.{Row, row_of, found_row, same_key}
 
 -- `==` of two patterns compares their places
 pub patterns_compare : (a b : MultiSlotArgPattern) → (pattern_eq.ghosts).eq a b ≡ nat_eq (pattern_place a) (pattern_place b)
-patterns_compare KeysOnly KeysOnly = refl
-patterns_compare KeyValuePairs KeyValuePairs = refl
-patterns_compare KeysAndLastArg KeysAndLastArg = refl
-patterns_compare KeyWithTwoArgTriples KeyWithTwoArgTriples = refl
-patterns_compare a b = refl
+patterns_compare a b = grind (arith)
 
 -- and that of two policies their places and those of their operations
 pub policies_compare : (a b : ResponsePolicy) → (policy_eq.ghosts).eq a b ≡ same_policy a b
-policies_compare OneSucceeded OneSucceeded = refl
-policies_compare FirstSucceededNonEmptyOrAllEmpty FirstSucceededNonEmptyOrAllEmpty = refl
-policies_compare AllSucceeded AllSucceeded = refl
-policies_compare (AggregateLogical And) (AggregateLogical And) = refl
-policies_compare (AggregateLogical Or) (AggregateLogical Or) = refl
-policies_compare (Aggregate Min) (Aggregate Min) = refl
-policies_compare (Aggregate Sum) (Aggregate Sum) = refl
-policies_compare CombineArrays CombineArrays = refl
-policies_compare Special Special = refl
-policies_compare CombineMaps CombineMaps = refl
-policies_compare a b = refl
+policies_compare a b = grind (arith)
 
 -- patterns of one place are one
 pattern_at_place : (a b : MultiSlotArgPattern) → nat_eq (pattern_place a) (pattern_place b) ≡ true → a ≡ b
-pattern_at_place KeysOnly KeysOnly h = refl
-pattern_at_place KeyValuePairs KeyValuePairs h = refl
-pattern_at_place KeysAndLastArg KeysAndLastArg h = refl
-pattern_at_place KeyWithTwoArgTriples KeyWithTwoArgTriples h = refl
-pattern_at_place a b h = cc
+pattern_at_place a b h1 = grind (arith)
 
 -- policies of one place whose operations have one place are one
 policy_at_place : (a b : ResponsePolicy) → same_policy a b ≡ true → a ≡ b
-policy_at_place OneSucceeded OneSucceeded h = refl
-policy_at_place FirstSucceededNonEmptyOrAllEmpty FirstSucceededNonEmptyOrAllEmpty h = refl
-policy_at_place AllSucceeded AllSucceeded h = refl
-policy_at_place (AggregateLogical And) (AggregateLogical And) h = refl
-policy_at_place (AggregateLogical Or) (AggregateLogical Or) h = refl
-policy_at_place (Aggregate Min) (Aggregate Min) h = refl
-policy_at_place (Aggregate Sum) (Aggregate Sum) h = refl
-policy_at_place CombineArrays CombineArrays h = refl
-policy_at_place Special Special h = refl
-policy_at_place CombineMaps CombineMaps h = refl
-policy_at_place a b h = cc
+policy_at_place a b h1 = grind (arith)
 
 pattern-Decides : (a b : MultiSlotArgPattern) → Decides (nat_eq (pattern_place a) (pattern_place b)) (a ≡ b)
 pattern-Decides a b = (pattern_at_place a b, λ same. (Decides-eqb (pattern_place a) (pattern_place b)).1 (ap pattern_place same))
@@ -75,10 +43,7 @@ policy-Decides a b = (policy_at_place a b, at_places a b)
 
 -- a row is its name, its pattern and its policy
 row-Decides : (a b : List ℕ × Registered) → Decides (same_row a b) (a ≡ b)
-row-Decides a b =
-    let parts = Decides-and _ _ (bytes_eq-Decides a.0 b.0) (Decides-and _ _ (pattern-Decides a.1.0 b.1.0) (policy-Decides a.1.1 b.1.1)) in
-    Decides-like (same_row a b) (λ same. λ i. (same.0 i, (same.1.0 i, same.1.1 i)))
-    (λ same. (ap (λ row. row.0) same, (ap (λ row. row.1.0) same, ap (λ row. row.1.1) same))) parts
+row-Decides a b = grind (arith, common_steps, Decides-and, bytes_eq-Decides, pattern-Decides, policy-Decides, Decides-like)
 
 -- the test tells whether two registries are one
 pub same_registrations-Decides : (a b : Registrations) → Decides (same_registrations a b) (a ≡ b)

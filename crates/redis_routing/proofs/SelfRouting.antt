@@ -1,5 +1,5 @@
 -- The part of each route of a split, as a command of its own, goes to that very route.
-use Rattle.std.proofs.Common.{◌≡◌, ℕ, zero, suc, ◌+◌, ◌-◌, ◌*◌, ◌%◌, ◌<◌, ◌≤◌, List, [], ◌∷◌, ◌++◌, Bool, true, false, cond, not, ◌&&◌, ◌||◌, Option, Some, None, map, option_map, length, take, drop, get_or, refl, sym, ap, ◌∙◌, arith}
+use Rattle.std.proofs.Common.{◌≡◌, ℕ, ◌+◌, ◌-◌, ◌*◌, ◌%◌, ◌<◌, ◌≤◌, List, [], ◌∷◌, ◌++◌, Bool, true, false, cond, not, ◌&&◌, ◌||◌, Option, Some, None, map, length, take, refl, sym, ap, ◌∙◌, arith}
 use Rattle.std.specs.Prelude.{nat_eq, nat_lt, All}
 use Rattle.std.specs.List.{flat_map, list_any}
 use Rattle.std.proofs.Math.Nat.{mul-mod_left}
@@ -15,13 +15,12 @@ use Rattle.cluster_slots.specs.ArgPattern.{fits, is_complete, tuple_args_count, 
 use Rattle.cluster_slots.specs.declared.arg_pattern.MultiSlotArgPattern.{MultiSlotArgPattern}
 use Rattle.cluster_slots.specs.declared.arg_pattern.MultiSlotArgPattern.TheVariants.{KeysOnly, KeyValuePairs, KeysAndLastArg, KeyWithTwoArgTriples}
 use Rattle.cluster_slots.proofs.ArgPatterns.{fits_some}
-use Rattle.redis_routing.specs.Upper.{upper}
 use Rattle.redis_routing.specs.TwoWords.{takes_second}
-use Rattle.redis_routing.specs.Command.{Arguments, argument, command_name, name_by}
+use Rattle.redis_routing.specs.Command.{Arguments, command_name, name_by}
 use Rattle.redis_routing.specs.RouteBy.{base_routings, base_routing}
 use Rattle.redis_routing.specs.Names.{Names}
 use Rattle.redis_routing.specs.NameWords.{name_words_of}
-use Rattle.redis_routing.specs.PresentArguments.{arguments_before_gap, present_arguments, present_arguments_after}
+use Rattle.redis_routing.specs.PresentArguments.{arguments_before_gap, present_arguments}
 use Rattle.redis_routing.specs.Registry.{tables_with}
 use Rattle.redis_routing.specs.Tuples.{Tuple, keys_alone, keys_and_two, keys_and_values, shared_in, tuples_from, tuples_in, arguments_of}
 use Rattle.redis_routing.specs.Parts.{first_appearances, tuples_in_slot, part_of_slot, arguments_in_slot, slot_of}
@@ -55,11 +54,7 @@ takes_none first second plain = grind (arith, common_steps)
 pub table_words : (args : Arguments) (name : List ℕ) (pattern : MultiSlotArgPattern) → Some name ≡ command_name args → base_routing name ≡ Some (route_by.MultiSlot pattern) → name_words_of args ≡ 1
 table_words [] name pattern named route_by_is = absurd (cc named)
 table_words (None ∷ rest) name pattern named route_by_is = absurd (cc named)
-table_words (Some first ∷ rest) name pattern named route_by_is =
-    let second : Option (List ℕ) = option_map upper (argument (Some first ∷ rest) 1) in
-    let name_is : name ≡ name_by (upper first) second = cc named in
-    let plain : is_plain name ≡ true = sym (ap (plain_if_split name) route_by_is) ∙ each_plain name in
-    words_alone first (argument rest 0) (takes_none (upper first) second (sym (ap is_plain name_is) ∙ plain))
+table_words (Some first ∷ rest) name pattern named route_by_is = grind (arith, common_steps, each_plain name, words_alone, takes_none)
 
 pub arguments_before_gap-map : (words : List (List ℕ)) → arguments_before_gap (map Some words) ≡ words
 arguments_before_gap-map [] = refl
@@ -114,27 +109,18 @@ whole KeyWithTwoArgTriples slot place present = whole_two slot place present
 
 -- where n of the tuples of m arguments stand before what all share, what makes tuples is again what those n have
 own_again : (pattern : MultiSlotArgPattern) (m n : ℕ) → 0 < n → n ≤ tuple_args_count pattern m → tuple_args_count pattern (n * width_of pattern + (m - tuple_args_count pattern m)) ≡ n * width_of pattern
-own_again KeysOnly m n some few = omega arith
-own_again KeyValuePairs m n some few = omega arith
-own_again KeysAndLastArg m n some few = grind (arith, nat_tests)
-own_again KeyWithTwoArgTriples m n some few = omega arith
+own_again pattern m n h1 h2 = grind (arith, nat_tests)
 
 -- so many arguments are those of whole tuples
 whole_fits : (k n width : ℕ) → 0 < k → k ≡ n * width → (nat_lt 0 k && nat_eq (k % width) 0) ≡ true
 whole_fits k n width some is = rw (lt-ltb 0 k some, eq-eqb (k % width) 0 (ap (λ j. j % width) is ∙ mul-mod_left n width)) refl
 
 fits_again : (pattern : MultiSlotArgPattern) (m n : ℕ) → 0 < n → fits pattern (n * width_of pattern + (m - tuple_args_count pattern m)) ≡ true
-fits_again KeysOnly m n some = lt-ltb 0 (n * 1 + (m - m)) (omega arith)
-fits_again KeyValuePairs m n some = whole_fits (n * 2 + (m - m)) n 2 (omega arith) (omega arith)
-fits_again KeysAndLastArg m n some = lt-ltb 0 (n * 1 + (m - tuple_args_count KeysAndLastArg m)) (omega arith)
-fits_again KeyWithTwoArgTriples m n some = whole_fits (n * 3 + (m - m)) n 3 (omega arith) (omega arith)
+fits_again pattern m n h1 = grind (arith, lt-ltb, whole_fits)
 
 -- and where the m arguments are complete, they are complete with what all share
 still_complete : (pattern : MultiSlotArgPattern) (m n : ℕ) → 0 < n → is_complete pattern m ≡ true → is_complete pattern (n * width_of pattern + (m - tuple_args_count pattern m)) ≡ true
-still_complete KeysOnly m n some complete = fits_again KeysOnly m n some
-still_complete KeyValuePairs m n some complete = fits_again KeyValuePairs m n some
-still_complete KeysAndLastArg m n some complete = grind (arith, nat_tests)
-still_complete KeyWithTwoArgTriples m n some complete = fits_again KeyWithTwoArgTriples m n some
+still_complete pattern m n h1 h2 = grind (arith, fits_again, nat_tests)
 
 module _ (pattern : MultiSlotArgPattern) (present : List (List ℕ)) (slot : ℕ) (there : list_any (λ t. nat_eq (slot_of t) slot) (tuples_in pattern present) ≡ true) where
   abbrev slot_tuples : List Tuple
@@ -175,9 +161,7 @@ module _ (pattern : MultiSlotArgPattern) (present : List (List ℕ)) (slot : ℕ
 
 -- each of some things is one of those with its number
 pub all_there : {X : Type 0} (number : X → ℕ) (xs : List X) → All (λ x. list_any (λ y. nat_eq (number y) (number x)) xs ≡ true) xs
-all_there number [] k d inside = absurd (omega arith)
-all_there number (x ∷ xs) zero d inside = rw (eq-eqb (number x) (number x) refl) refl
-all_there number (x ∷ xs) (suc k) d inside = or_second (nat_eq (number x) (number (get_or xs k d))) _ (all_there number xs k d (omega arith))
+all_there number xs = grind (arith, common_steps, eq-eqb, or_second)
 
 pub All-first_appearances : (P : ℕ → Type 0) (ns : List ℕ) → All P ns → All P (first_appearances ns)
 All-first_appearances P [] all = all
@@ -190,11 +174,7 @@ before_gap_short (Some arg ∷ args) = omega (arith, before_gap_short args)
 
 -- after the words of the name stand only texts of the part
 pub present_arguments-part : (args : Arguments) (texts : List (List ℕ)) → 0 < length (present_arguments args) → present_arguments (take (name_words_of args) args ++ map Some texts) ≡ texts
-present_arguments-part args texts some =
-    let words : ℕ = name_words_of args in
-    let long : length (take words args) ≡ words = length-take-le words args (omega (arith, some, before_gap_short (drop words args), length-drop words args)) in
-    ap (λ n. present_arguments_after n (take words args ++ map Some texts)) (words_again args some (map Some texts)).1
-    ∙ ap arguments_before_gap (drop_at (take words args) (map Some texts) words long) ∙ arguments_before_gap-map texts
+present_arguments-part args texts some = grind (arith, common_steps, length-take-le, before_gap_short, length-drop, words_again args some (map Some texts), drop_at, arguments_before_gap-map texts)
 
 module _ (names : Names) (args : Arguments) (name : List ℕ) (pattern : MultiSlotArgPattern) (named : command_name args ≡ Some name) (route_by_is : (tables_with names.registered).route_by name ≡ Some (route_by.MultiSlot pattern)) (fit : fits pattern (length (present_arguments args)) ≡ true) where
   abbrev present : List (List ℕ)

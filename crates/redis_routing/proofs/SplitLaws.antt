@@ -1,17 +1,17 @@
 -- The laws of split commands, for whatever a command is routed to.
-use Rattle.std.proofs.Common.{◌≡◌, ℕ, zero, suc, List, [], Bool, true, Option, None, Some, length, refl, sym, ap, subst, arith}
+use Rattle.std.proofs.Common.{◌≡◌, ℕ, List, [], Bool, true, Option, None, Some, length, sym, ap, subst, arith}
 use Rattle.std.specs.Prelude.{nat_lt}
 use Rattle.std.proofs.lemmas.Grind.{common_steps}
 use Rattle.cluster_slots.specs.SlotRoute.{SlotRoute}
 use Rattle.cluster_slots.specs.ArgPattern.{fits}
 use Rattle.cluster_slots.specs.declared.arg_pattern.MultiSlotArgPattern.{MultiSlotArgPattern}
-use Rattle.redis_routing.specs.Command.{Arguments, argument, command_name}
+use Rattle.redis_routing.specs.Command.{Arguments, command_name}
 use Rattle.redis_routing.specs.Laws.{Covers, ArePartsRouted, ArePartsPicked, IfSplit}
 use Rattle.redis_routing.specs.Names.{Names}
 use Rattle.redis_routing.specs.NameWords.{name_words_of}
 use Rattle.redis_routing.specs.Policies.{policy_of}
 use Rattle.redis_routing.specs.Registry.{tables_with}
-use Rattle.redis_routing.specs.Routing.{to_key, by_count, to_key_or_any, to_key_after, to_slot, routes_of, to_slots, routing, routing_by, routing_by_name, argument_number}
+use Rattle.redis_routing.specs.Routing.{to_key, by_count, to_key_or_any, to_key_after, to_slot, routes_of, to_slots, routing, routing_by, routing_by_name}
 use Rattle.redis_routing.specs.PresentArguments.{present_arguments}
 use Rattle.redis_routing.specs.RouteBy.{base_routing}
 use Rattle.redis_routing.specs.declared.policy.ResponsePolicy.{ResponsePolicy}
@@ -30,9 +30,7 @@ module _ (P : MultiSlotArgPattern → List (SlotRoute × List ℕ) → Type 0) (
   of_key (Some key) = tt
 
   of_count : (count : Option ℕ) (key : Option (List ℕ)) → IfSplit P (by_count reads count key)
-  of_count None key = tt
-  of_count (Some zero) key = tt
-  of_count (Some (suc n)) key = of_key key
+  of_count count key = grind (arith, of_key)
 
   of_key_or_any : (key : Option (List ℕ)) → IfSplit P (to_key_or_any reads key)
   of_key_or_any None = tt
@@ -50,16 +48,7 @@ module _ (P : MultiSlotArgPattern → List (SlotRoute × List ℕ) → Type 0) (
   of_slots pattern h = grind (arith, common_steps)
 
   of_route_by : (w : Option RouteBy) → ((pattern : MultiSlotArgPattern) → w ≡ Some (route_by.MultiSlot pattern) → fits pattern (length (present_arguments args)) ≡ true → P pattern (routes_of reads pattern (present_arguments args))) → IfSplit P (routing_by policy reads args w)
-  of_route_by None h = of_key_or_any _
-  of_route_by (Some route_by.AllNodes) h = tt
-  of_route_by (Some route_by.AllMasters) h = tt
-  of_route_by (Some (route_by.MultiSlot pattern)) h = of_slots pattern (h pattern refl)
-  of_route_by (Some route_by.Undefined) h = tt
-  of_route_by (Some (route_by.CountAt n)) h = of_count _ _
-  of_route_by (Some (route_by.KeyAt n)) h = of_key _
-  of_route_by (Some route_by.KeyAfterStreams) h = of_key_after _
-  of_route_by (Some route_by.Random) h = tt
-  of_route_by (Some (route_by.SlotAt n)) h = of_slot (argument_number 16 (argument args n))
+  of_route_by w h1 = grind (arith, of_key_or_any, of_slots, of_count, of_key, of_key_after, of_slot)
 
 -- the laws of the routes of a command by its name
 module _ (names : Names) (args : Arguments) (name : List ℕ) (named : Some name ≡ command_name args) where

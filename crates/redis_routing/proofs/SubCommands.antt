@@ -29,18 +29,9 @@ both None o = None
 both (Some texts) o = before texts o
 
 all_some-append : (first rest : Arguments) → all_some (first ++ rest) ≡ both (all_some first) (all_some rest)
-all_some-append [] rest = none_before (all_some rest)
-  where
-    none_before : (o : Option (List (List ℕ))) → o ≡ before [] o
-    none_before None = refl
-    none_before (Some texts) = refl
+all_some-append [] rest = grind (arith, common_steps)
 all_some-append (None ∷ first) rest = refl
-all_some-append (Some arg ∷ first) rest = ap (option_map (λ texts. arg ∷ texts)) (all_some-append first rest) ∙ one_before (all_some first) (all_some rest)
-  where
-    one_before : (p o : Option (List (List ℕ))) → option_map (λ texts. arg ∷ texts) (both p o) ≡ both (option_map (λ texts. arg ∷ texts) p) o
-    one_before None o = refl
-    one_before (Some texts) None = refl
-    one_before (Some texts) (Some more) = refl
+all_some-append (Some arg ∷ first) rest = grind (arith, common_steps, all_some-append first rest)
 
 pub name_before : (first rest : Arguments) (texts : List (List ℕ)) → Some texts ≡ all_some first → before texts (all_some rest) ≡ all_some (first ++ rest)
 name_before first rest texts is = ap (λ o. both o (all_some rest)) is ∙ sym (all_some-append first rest)
@@ -60,7 +51,4 @@ last_gap args start (suc n) gap =
 
 -- the last word of the name is not there
 pub no_last_word : (args rest : Arguments) (words : ℕ) → 0 < words → argument args (words - 1) ≡ None → None ≡ all_some (map (λ place. argument args place) (range_with_len 0 words) ++ rest)
-no_last_word args rest zero some gap = absurd (omega arith)
-no_last_word args rest (suc n) some gap =
-    let last : argument args (0 + n) ≡ None = ap (argument args) (omega arith) ∙ gap in
-    name_gap (map (λ place. argument args place) (range_with_len 0 (suc n))) rest (sym (last_gap args 0 n last))
+no_last_word args rest words h1 h2 = grind (arith, name_gap, last_gap)

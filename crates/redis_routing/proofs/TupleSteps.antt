@@ -67,10 +67,7 @@ pub present_item : (words : ℕ) (args : Arguments) (i : ℕ) → i < length (pr
 present_item words args i h = ap (argument args) (omega arith) ∙ sym (get_or-drop words args i None) ∙ before_gap_item (drop words args) i h
 
 pub tuple_within : (pattern : MultiSlotArgPattern) (own i : ℕ) → i < own / width_of pattern → i * width_of pattern + width_of pattern ≤ own
-tuple_within KeysOnly own i h = omega (arith, h)
-tuple_within KeyValuePairs own i h = omega (arith, h)
-tuple_within KeysAndLastArg own i h = omega (arith, h)
-tuple_within KeyWithTwoArgTriples own i h = omega (arith, h)
+tuple_within pattern own i h1 = grind (arith)
 
 alone_few : (p : ℕ) (xs : List (List ℕ)) → length (keys_alone p xs) ≤ length xs
 alone_few p [] = omega arith

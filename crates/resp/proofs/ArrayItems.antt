@@ -1,7 +1,8 @@
 -- Arrays of bulk strings and nils, read item by item.
-use Rattle.std.proofs.Common.{◌≡◌, ◌+◌, ◌-◌, ◌<◌, ◌≤◌, ◌^◌, ℕ, zero, suc, List, [], ◌∷◌, ◌++◌, Ok, Err, length, drop, take, get_or, decimal, append_assoc, append-nil, refl, sym, ap, ◌∙◌, arith}
+use Rattle.std.proofs.Common.{◌≡◌, ◌+◌, ◌-◌, ◌<◌, ◌≤◌, ◌^◌, ℕ, List, [], ◌∷◌, ◌++◌, Ok, Err, length, drop, take, get_or, decimal, append_assoc, append-nil, refl, sym, ap, ◌∙◌, arith}
+use Rattle.std.proofs.lemmas.Grind.{common_steps}
 use Rattle.std.specs.List.{AllByRecursion}
-use Rattle.std.proofs.lemmas.List.{append_cancel_left, drop_more, length-append, take_at}
+use Rattle.std.proofs.lemmas.List.{append_cancel_left, drop_more, length-append}
 use Rattle.resp_core.specs.Reply.{Reply, nil, bulk, int, array, simple, okay, pairs, replies_of}
 use Rattle.resp.specs.Forms.{line, form, forms, depth, depth_items, HasForm, HaveForm, IsBulkOrNil, IsForm}
 use Rattle.resp.specs.Requests.{byte_at, digits_at, line_at, bulk_at}
@@ -37,13 +38,7 @@ only_after_nil bytes rest is okay more item same = absurd item
 only_after_nil bytes rest is (pairs items) more item same = absurd item
 
 pub only_after_bulk : (bytes word rest : List ℕ) → bulk_at bytes ≡ Ok (word, rest) → (r : Reply) (more : List ℕ) → IsBulkOrNil r → bytes ≡ form r ++ more → rest ≡ more
-only_after_bulk bytes word rest is nil more item same = absurd (no_read (StopsAt (length more + 4)) word rest (sym (nil_stops more) ∙ ap bulk_at (sym same) ∙ is))
-only_after_bulk bytes word rest is (int n) more item same = absurd item
-only_after_bulk bytes word rest is (bulk other) more item same = same_rest word other rest more (sym is ∙ ap bulk_at same ∙ bulk_again other more item)
-only_after_bulk bytes word rest is (array items) more item same = absurd item
-only_after_bulk bytes word rest is (simple text) more item same = absurd item
-only_after_bulk bytes word rest is okay more item same = absurd item
-only_after_bulk bytes word rest is (pairs items) more item same = absurd item
+only_after_bulk bytes word rest h1 r more h2 h3 = grind (arith, no_read, nil_stops, same_rest, bulk_again)
 
 pub no_item : (bytes : List ℕ) (stop : Stop) → bulk_at bytes ≡ Err stop → ((rest : List ℕ) → bytes ≡ form nil ++ rest → ⊥) → (r : Reply) (more : List ℕ) → IsBulkOrNil r → bytes ≡ form r ++ more → ⊥
 no_item bytes stop is other nil more item same = other more same
@@ -57,35 +52,18 @@ no_item bytes stop is other (pairs items) more item same = item
 -- ---- an array of such items has a form
 
 item_has_form : (r : Reply) → IsBulkOrNil r → HasForm r × (depth r ≡ 0)
-item_has_form nil is = (tt, refl)
-item_has_form (int n) is = absurd is
-item_has_form (bulk bytes) is = (is, refl)
-item_has_form (array items) is = absurd is
-item_has_form (simple text) is = absurd is
-item_has_form okay is = absurd is
-item_has_form (pairs items) is = absurd is
+item_has_form r h1 = grind (arith)
 
 items_have_form : (rs : List Reply) → AllByRecursion IsBulkOrNil rs → HaveForm (replies_of rs) × (depth_items (replies_of rs) ≡ 0)
 items_have_form [] are = (tt, refl)
-items_have_form (r ∷ rs) are =
-    let one = item_has_form r are.0 in
-    let others = items_have_form rs are.1 in
-    ((one.0, others.0), omega (arith, one.1, others.1))
+items_have_form (r ∷ rs) are = grind (arith, common_steps, items_have_form rs are.1)
 
 pub array_has_form : (rs : List Reply) → AllByRecursion IsBulkOrNil rs → length rs < 2 ^ 63 → IsForm MAX_LEVELS (Ok (array (replies_of rs))) (form (array (replies_of rs)))
-array_has_form rs are few =
-    let have = items_have_form rs are in
-    written MAX_LEVELS (array (replies_of rs)) (omega (arith, few, count_is rs), have.0) (omega (arith, have.1))
+array_has_form rs are few = grind (arith, common_steps, items_have_form, written, count_is)
 
 -- an item has bytes
 some_bytes : (r : Reply) → IsBulkOrNil r → 1 ≤ length (form r)
-some_bytes nil is = omega arith
-some_bytes (int n) is = absurd is
-some_bytes (bulk bytes) is = omega arith
-some_bytes (array items) is = absurd is
-some_bytes (simple text) is = absurd is
-some_bytes okay is = absurd is
-some_bytes (pairs items) is = absurd is
+some_bytes r h1 = grind (arith)
 
 many_bytes : (rs : List Reply) → AllByRecursion IsBulkOrNil rs → length rs ≤ length (forms (replies_of rs))
 many_bytes [] are = omega arith
@@ -97,9 +75,7 @@ array_bytes : (rs : List Reply) (bytes rest : List ℕ) → bytes ≡ form (arra
 array_bytes rs bytes rest same = same ∙ ap (λ t. t ++ rest) (array_is rs) ∙ append_assoc (line 42 (decimal (length rs))) (forms (replies_of rs)) rest
 
 few_items : (rs : List Reply) (bytes rest : List ℕ) → AllByRecursion IsBulkOrNil rs → bytes ≡ form (array (replies_of rs)) ++ rest → length bytes < 2 ^ 63 → length rs < 2 ^ 63
-few_items rs bytes rest are same short =
-    let head = line 42 (decimal (length rs)) in
-    omega (arith, short, many_bytes rs are, ap (length {A = ℕ}) (array_bytes rs bytes rest same), length-append head (forms (replies_of rs) ++ rest), length-append (forms (replies_of rs)) rest)
+few_items rs bytes rest are same short = grind (arith, common_steps, many_bytes, array_bytes, length-append)
 
 module _ (rs : List Reply) (bytes rest : List ℕ) (are : AllByRecursion IsBulkOrNil rs) (same : bytes ≡ form (array (replies_of rs)) ++ rest) (short : length bytes < 2 ^ 63) where
   first_line : line_at 42 bytes ≡ Ok (length rs, forms (replies_of rs) ++ rest)
@@ -109,9 +85,7 @@ module _ (rs : List Reply) (bytes rest : List ℕ) (are : AllByRecursion IsBulkO
   has_line stop is = no_read stop (length rs) (forms (replies_of rs) ++ rest) (sym is ∙ first_line)
 
   pub only_line : (n : ℕ) (first : List ℕ) → line_at 42 bytes ≡ Ok (n, first) → (length rs ≡ n) × (first ≡ forms (replies_of rs) ++ rest)
-  only_line n first is =
-      let e = sym is ∙ first_line in
-      (sym (same_value n (length rs) first (forms (replies_of rs) ++ rest) e), same_rest n (length rs) first (forms (replies_of rs) ++ rest) e)
+  only_line n first is = grind (arith, common_steps, first_line, same_value, same_rest)
 
 -- ---- item by item
 
@@ -120,9 +94,7 @@ all_push [] r are is = (is, tt)
 all_push (s ∷ rs) r are is = (are.0, all_push rs r are.1 is)
 
 pub item_at : (rs : List Reply) (i : ℕ) → AllByRecursion IsBulkOrNil rs → i < length rs → IsBulkOrNil (get_or rs i nil)
-item_at [] i are few = absurd (omega (arith, few))
-item_at (r ∷ rs) zero are few = are.0
-item_at (r ∷ rs) (suc i) are few = item_at rs i are.1 (omega (arith, few))
+item_at rs i h1 h2 = grind (arith, common_steps)
 
 pub next_item : (rs : List Reply) (i : ℕ) (tail : List ℕ) → i < length rs → forms (replies_of (drop i rs)) ++ tail ≡ form (get_or rs i nil) ++ (forms (replies_of (drop (i + 1) rs)) ++ tail)
 next_item rs i tail few = ap (λ xs. forms (replies_of xs) ++ tail) (drop_more rs i nil few) ∙ append_assoc (form (get_or rs i nil)) (forms (replies_of (drop (i + 1) rs))) tail
@@ -133,11 +105,7 @@ front_more rs r first rest after so_far next =
 
 -- the bytes before what follows an item are its own
 pub own_bytes : (rest own after : List ℕ) → rest ≡ own ++ after → take (length rest - length after) rest ≡ own
-own_bytes rest own after is =
-    let long : length rest - length after ≡ length own = omega (arith, ap (length {A = ℕ}) is, length-append own after) in
-    ap (λ n. take n rest) long ∙ ap (take (length own)) is ∙ take_at own after (length own) refl
+own_bytes rest own after is = grind (arith, common_steps)
 
 pub found_array : (rs : List Reply) (bytes first rest : List ℕ) (n : ℕ) → bytes ≡ line 42 (decimal n) ++ first → n ≡ length rs → first ≡ forms (replies_of rs) ++ rest → bytes ≡ form (array (replies_of rs)) ++ rest
-found_array rs bytes first rest n is many front =
-    is ∙ ap (λ t. line 42 (decimal n) ++ t) front ∙ ap (λ k. line 42 (decimal k) ++ (forms (replies_of rs) ++ rest)) many
-    ∙ sym (append_assoc (line 42 (decimal (length rs))) (forms (replies_of rs)) rest) ∙ ap (λ t. t ++ rest) (sym (array_is rs))
+found_array rs bytes first rest n is many front = grind (arith, common_steps, append_assoc, array_is)

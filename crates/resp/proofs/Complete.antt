@@ -91,10 +91,7 @@ abbrev paired : {B : Type 0} → B → List ℕ → Result (B × List ℕ) Fault
 paired y rest = Ok (y, rest)
 
 lacks : {B : Type 0} (r : Result (List ℕ) Fault) (y : B) → (r >>= paired y) ≡ Err Incomplete → r ≡ Err Incomplete
-lacks (Ok rest) y e = absurd (no_ok (y, rest) e)
-lacks (Err Incomplete) y e = refl
-lacks (Err Malformed) y e = absurd (no_malformed e)
-lacks (Err TooDeep) y e = absurd (no_too_deep e)
+lacks r y h1 = grind (arith)
 
 -- the end is what the line lacks
 end_lacks : {A B : Type 0} (o : Option A) (x : A → B) (after : List ℕ) → (or_malformed o >>= λ n. after_line_end after >>= paired (x n)) ≡ Err Incomplete
@@ -129,11 +126,7 @@ zero_length = refl
 digit_line : (bytes : List ℕ) (d : ℕ) → after_text bytes ≡ [] → eqb d 13 ≡ false → eqb d 10 ≡ false
     → (text_until_line_end (bytes ++ (d ∷ crlf)) ≡ bytes ++ d ∷ []) × (after_text (bytes ++ (d ∷ crlf)) ≡ 13 ∷ 10 ∷ [])
 unfolding text_until_line_end after_text
-digit_line bytes d e f g =
-    let l = open_longer bytes (d ∷ crlf) e in
-    let text : text_until_line_end (d ∷ crlf) ≡ d ∷ [] = rw (f, g) refl in
-    let after : after_text (d ∷ crlf) ≡ 13 ∷ 10 ∷ [] = rw (f, g) refl in
-    (l.1 ∙ ap (λ (t : List ℕ). bytes ++ t) text, l.2 ∙ after)
+digit_line bytes d e f g = grind (arith, common_steps, open_longer bytes (d ∷ crlf) e)
 
 ints_filled : (bytes text : List ℕ) → after_text bytes ≡ [] → bytes ≡ text → int_in (text ++ 48 ∷ []) ≡ Some (pos 0) → Filled (λ bs. int_at (text_until_line_end bs) (after_text bs)) bytes
 ints_filled bytes text e is number =

@@ -1,5 +1,5 @@
 -- Numbers, digit by digit.
-use Rattle.std.proofs.Common.{◌≡◌, ◌≢◌, ℕ, ℤ, pos, negsuc, zero, suc, ◌+◌, ◌*◌, ◌<◌, ◌≤◌, ◌^◌, Bool, true, false, ◌&&◌, cond, eqb, ltb, List, [], ◌∷◌, ◌++◌, length, get_or, drop, Option, Some, None, refl, ap, ◌∙◌, arith, decimal}
+use Rattle.std.proofs.Common.{◌≡◌, ◌≢◌, ℕ, ℤ, pos, negsuc, suc, ◌+◌, ◌*◌, ◌<◌, ◌≤◌, ◌^◌, Bool, true, false, ◌&&◌, cond, ltb, List, [], ◌∷◌, ◌++◌, length, get_or, drop, Option, Some, None, refl, ap, ◌∙◌, arith, decimal}
 use Rattle.std.specs.Char.{is_ascii_digit, digit_value}
 use Rattle.std.specs.Str.{all_ascii_digits}
 use Rattle.std.specs.List.{AllByRecursion}
@@ -92,9 +92,7 @@ none_above None e = refl
 none_above (Some n) e = absurd cc
 
 none_below : (n : Option ℕ) → below_zero n ≡ None → n ≡ None
-none_below None e = refl
-none_below (Some zero) e = absurd cc
-none_below (Some (suc n)) e = absurd cc
+none_below n h1 = grind (arith)
 
 -- a text that is more than a sign
 abbrev pub HasDigits : List ℕ → Type 0
@@ -106,23 +104,7 @@ some_follow b (c ∷ text) other = omega arith
 
 pub int_longer : (text more : List ℕ) → HasDigits text → int_in text ≡ None → int_in (text ++ more) ≡ None
 unfolding int_in
-int_longer [] more has e = absurd (has.0 refl)
-int_longer (first ∷ text) more has e =
-    by_test (eqb first 45)
-    (λ t.
-    let is : first ≡ 45 = grind (arith, nat_tests) in
-    let other : first ∷ text ≢ first ∷ [] = λ h. has.1 (h ∙ ap (λ (b : ℕ). b ∷ []) is) in
-    let none = none_below (number_up_to (2 ^ 63 + 1) text) (rw t at e) in
-    rw t (ap below_zero (none_longer (2 ^ 63 + 1) text more (omega arith) (some_follow first text other) none)))
-    (λ f. by_test (eqb first 43)
-    (λ t.
-    let is : first ≡ 43 = grind (arith, nat_tests) in
-    let other : first ∷ text ≢ first ∷ [] = λ h. has.2 (h ∙ ap (λ (b : ℕ). b ∷ []) is) in
-    let none = none_above (number_up_to (2 ^ 63) text) (rw (f, t) at e) in
-    rw (f, t) (ap not_below_zero (none_longer (2 ^ 63) text more (omega arith) (some_follow first text other) none)))
-    (λ g.
-    let none = none_above (number_up_to (2 ^ 63) (first ∷ text)) (rw (f, g) at e) in
-    rw (f, g) (ap not_below_zero (none_longer (2 ^ 63) (first ∷ text) more (omega arith) (omega arith) none))))
+int_longer text more h1 h2 = grind (arith, common_steps, by_test, nat_tests, none_below, none_longer, some_follow, none_above)
 
 pub length_longer : (text more : List ℕ) → text ≢ [] → length_in text ≡ None → length_in (text ++ more) ≡ None
 length_longer [] more some e = absurd (some refl)

@@ -1,5 +1,6 @@
 -- An answer by its first byte, its first line, and what follows, as the code reads it.
-use Rattle.std.proofs.Common.{◌≡◌, ◌≢◌, ℕ, zero, suc, ◌-◌, ◌<◌, ◌≤◌, cond, eqb, List, [], ◌∷◌, length, get_or, take, drop, Option, Some, None, Result, Ok, Err, refl, sym, ap, ◌∙◌, arith}
+use Rattle.std.proofs.Common.{◌≡◌, ◌≢◌, ℕ, zero, suc, ◌-◌, ◌<◌, ◌≤◌, cond, eqb, List, [], ◌∷◌, length, get_or, take, drop, Option, Some, None, Result, Ok, Err, refl, ap, ◌∙◌, arith}
+use Rattle.std.proofs.lemmas.Grind.{common_steps}
 use Rattle.std.proofs.lemmas.Bool.{eq-eqb}
 use Rattle.std.proofs.lemmas.Bool.Decides.{nat_tests}
 use Rattle.std.proofs.lemmas.List.{take_rest}
@@ -36,9 +37,7 @@ empty levels (b ∷ bytes) h = absurd (omega (arith, h))
 
 opened : (levels : ℕ) (bytes : List ℕ) → 1 ≤ length bytes
     → answer_at levels bytes ≡ cond (eqb (get_or bytes 0 0) 42) (nested_at levels (tail bytes)) (flat_at (get_or bytes 0 0) (text_until_line_end (tail bytes)) (after_text (tail bytes)))
-opened levels bytes h =
-    step levels bytes ∙ front_open (nested_at levels) bytes h
-    ∙ ap (λ (t : List ℕ). cond (eqb (get_or bytes 0 0) 42) (nested_at levels t) (flat_at (get_or bytes 0 0) (text_until_line_end t) (after_text t))) (sym (take_rest bytes 1))
+opened levels bytes h = grind (arith, common_steps, step, front_open, take_rest)
 
 pub is_flat : (levels : ℕ) (bytes text after : List ℕ) → 1 ≤ length bytes → text ≡ text_until_line_end (tail bytes) → after ≡ after_text (tail bytes) → get_or bytes 0 0 ≢ 42
     → flat_at (get_or bytes 0 0) text after ≡ answer_at levels bytes

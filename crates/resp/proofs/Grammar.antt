@@ -1,8 +1,8 @@
 -- What is read is a form of the answer, and each form is read.
-use Rattle.std.proofs.Common.{◌≡◌, ◌≢◌, ℕ, ℤ, zero, suc, ◌<◌, ◌≤◌, ◌^◌, true, false, eqb, ltb, List, [], ◌∷◌, ◌++◌, length, take, drop, codes, decimal, append_assoc, append-nil, Option, Some, None, Result, Ok, Err, refl, sym, ap, subst, ◌∙◌, arith, ◌⊎◌, inl, inr}
+use Rattle.std.proofs.Common.{◌≡◌, ℕ, ℤ, zero, suc, ◌<◌, ◌≤◌, false, eqb, List, [], ◌∷◌, ◌++◌, length, take, codes, append_assoc, append-nil, Option, Some, None, Result, Ok, Err, refl, sym, ap, subst, ◌∙◌, arith, ◌⊎◌, inl, inr}
+use Rattle.std.proofs.lemmas.Grind.{common_steps}
 use Rattle.std.specs.Prelude.{bytes_eq}
 use Rattle.std.specs.List.{AllByRecursion}
-use Rattle.std.specs.Str.{is_utf8}
 use Rattle.std.specs.Fmt.{signed_decimal}
 use Rattle.std.proofs.lemmas.Bool.{eqb-true, ltb-false, le-ltb, false_from_ne_true}
 use Rattle.std.proofs.lemmas.Bool.Decides.{nat_tests}
@@ -13,10 +13,10 @@ use Rattle.resp_core.specs.Reply.{Reply, Replies, nil, int, bulk, array, simple,
 use Rattle.resp.specs.declared.fault.Fault.{Fault}
 use Rattle.resp.specs.declared.fault.Fault.TheVariants.{Incomplete, Malformed, TooDeep}
 use Rattle.resp.specs.Forms.{Answer, answer_before, all_of, array_of_all, simple_of, number_up_to, int_in, length_in, crlf, line, count, form, forms, depth, depth_items, HasForm, HaveForm, IsInLine, IsUnnested, InOrder, IsNested, IsForm}
-use Rattle.resp.specs.Reading.{◌>>=◌, or_malformed, Items, after_line_end, text_until_line_end, after_text, is_before_digits, is_before_length, int_at, length_at, bytes_at, flat_at, times_at, array_items_at, array_at, front_at, answer_at}
+use Rattle.resp.specs.Reading.{◌>>=◌, or_malformed, Items, after_line_end, text_until_line_end, after_text, is_before_length, int_at, length_at, bytes_at, flat_at, times_at, array_items_at, array_at, front_at, answer_at}
 use Rattle.resp.proofs.Steps.{bind_ok, done, ok_is, chosen, some_of}
 use Rattle.resp.proofs.Digits.{number_decimal, int_decimal, in_line_decimal, in_line_int}
-use Rattle.resp.proofs.Lines.{line_is, text_in_line, text_again, after_again, ended_takes}
+use Rattle.resp.proofs.Lines.{line_is, text_in_line, text_again, after_again}
 use Rattle.resp.proofs.Longer.{Continues, answer_continues}
 
 after_line : (text rest : List ℕ) → (text ++ crlf) ++ rest ≡ text ++ (13 ∷ 10 ∷ rest)
@@ -26,10 +26,7 @@ two_in_line : (a b : ℕ) → IsInLine a → IsInLine b → AllByRecursion IsInL
 two_in_line a b h k = (h, (k, tt))
 
 char_in_line : (b : ℕ) → 13 < b → IsInLine b
-char_in_line b large =
-    let x : b ≢ 13 = omega (arith, large) in
-    let y : b ≢ 10 = omega (arith, large) in
-    (x, y)
+char_in_line b large = grind (arith, common_steps)
 
 -- ---- what is read
 
@@ -37,10 +34,7 @@ abbrev pub IsLength : List ℕ → Option ℕ → Type 0
 IsLength text o = ((text ≡ codes "-1") × (o ≡ None)) ⊎ ((n : ℕ) × (length_in text ≡ Some n) × (o ≡ Some n))
 
 pub end_takes : {A : Type 0} (x : A) (after : List ℕ) (y : A × List ℕ) → (after_line_end after >>= λ rest. Ok (x, rest)) ≡ Ok y → (after ≡ 13 ∷ 10 ∷ y.1) × (x ≡ y.0)
-end_takes {A = A} x after y e =
-    let a = bind_ok (after_line_end after) (λ rest. Ok (x, rest)) y e in
-    let is = ok_is (x, a.0) y a.2 in
-    (ended_takes after a.0 a.1 ∙ ap (λ (p : A × List ℕ). 13 ∷ 10 ∷ p.1) is, ap (λ (p : A × List ℕ). p.0) is)
+end_takes {A = A} x after y e = grind (arith, common_steps)
 
 pub length_takes : (text after : List ℕ) (y : Option ℕ × List ℕ) → length_at text after ≡ Ok y → (after ≡ 13 ∷ 10 ∷ y.1) × IsLength text y.0
 unfolding length_at
@@ -60,26 +54,12 @@ length_takes text after y e =
 
 int_takes : (text after : List ℕ) (y : ℤ × List ℕ) → int_at text after ≡ Ok y → (after ≡ 13 ∷ 10 ∷ y.1) × (int_in text ≡ Some y.0)
 unfolding int_at
-int_takes text after y e =
-    elim (chosen (is_before_digits text after) (Err Incomplete) _ (done y) e) [
-      | inl p ↦ absurd cc
-      | inr p ↦
-          let a = bind_ok (or_malformed (int_in text)) (λ n. after_line_end after >>= λ rest. Ok (n, rest)) y p.1 in
-          let t = end_takes a.0 after y a.2 in
-          (t.0, some_of (int_in text) a.0 a.1 ∙ ap (λ (n : ℤ). Some n) t.1)
-    ]
+int_takes text after y e = grind (arith, common_steps, chosen, done, bind_ok, end_takes, some_of)
 
 pub bytes_take : (n : ℕ) (rest : List ℕ) (x : Answer × List ℕ) → bytes_at (Some n) rest ≡ Ok x
     → (bytes : List ℕ) × (length bytes ≡ n) × (rest ≡ (bytes ++ crlf) ++ x.1) × (x.0 ≡ Ok (bulk bytes))
 unfolding bytes_at
-bytes_take n rest x e =
-    elim (chosen (ltb (length rest) n) (Err Incomplete) _ (done x) e) [
-      | inl p ↦ absurd cc
-      | inr p ↦
-          let long : n ≤ length rest = ltb-false _ _ p.0 in
-          let t = end_takes (Ok (bulk (take n rest))) (drop n rest) x p.1 in
-          (take n rest, length-take-le n rest long, sym (take-append-drop n rest) ∙ ap (λ (r : List ℕ). take n rest ++ r) t.0 ∙ sym (after_line (take n rest) x.1), sym t.1)
-    ]
+bytes_take n rest x e = grind (arith, common_steps, chosen, done x, ltb-false, end_takes, length-take-le, take-append-drop n rest, after_line (take n rest) x.1)
 
 -- after a line's text: its end, what belongs to the answer, and the rest
 abbrev FlatTaken : ℕ → List ℕ → List ℕ → Answer × List ℕ → Type 0
@@ -171,9 +151,7 @@ nested_takes Each read each bytes x e =
     ]
 
 pub spelt : (mark : ℕ) (bytes body rest : List ℕ) → after_text bytes ≡ 13 ∷ 10 ∷ (body ++ rest) → mark ∷ bytes ≡ (line mark (text_until_line_end bytes) ++ body) ++ rest
-spelt mark bytes body rest e =
-    ap (λ (t : List ℕ). mark ∷ t) (line_is bytes ∙ ap (λ (t : List ℕ). text_until_line_end bytes ++ t) e ∙ sym (after_line (text_until_line_end bytes) (body ++ rest)))
-    ∙ sym (append_assoc (line mark (text_until_line_end bytes)) body rest)
+spelt mark bytes body rest e = grind (arith, common_steps, line_is, after_line, append_assoc)
 
 pub answer_takes : (levels : ℕ) (bytes : List ℕ) (x : Answer × List ℕ) → answer_at levels bytes ≡ Ok x → (f : List ℕ) × (bytes ≡ f ++ x.1) × IsForm levels x.0 f
 unfolding answer_at front_at IsForm
@@ -208,12 +186,7 @@ minus_one = refl
 
 pub length_again : (text body : List ℕ) (n : ℕ) → length_in text ≡ Some n → length_at text (13 ∷ 10 ∷ body) ≡ Ok (Some n, body)
 unfolding length_at
-length_again text body n e =
-    let other : bytes_eq text (codes "-1") ≡ false = false_from_ne_true _ (λ same. no (sym e ∙ ap length_in ((bytes_eq-Decides text (codes "-1")).0 same) ∙ minus_one)) in
-    rw (other, eqb_zero 13 (10 ∷ body), e) refl
-  where
-    no : Some n ≡ None → ⊥
-    no h = absurd cc
+length_again text body n e = grind (arith, common_steps, false_from_ne_true, bytes_eq-Decides, minus_one, eqb_zero)
 
 pub nothing_again : (text body : List ℕ) → text ≡ codes "-1" → length_at text (13 ∷ 10 ∷ body) ≡ Ok (None, body)
 unfolding length_at
@@ -225,36 +198,25 @@ int_again text body n e = rw (eqb_zero 13 (10 ∷ body), e) refl
 
 pub bytes_again : (bytes : List ℕ) → bytes_at (Some (length bytes)) (bytes ++ crlf) ≡ Ok (Ok (bulk bytes), [])
 unfolding bytes_at
-bytes_again bytes =
-    let long : ltb (length (bytes ++ crlf)) (length bytes) ≡ false = le-ltb _ _ (omega (arith, length-append bytes crlf)) in
-    rw (long, take_at bytes crlf (length bytes) refl, drop_at bytes crlf (length bytes) refl) refl
+bytes_again bytes = grind (arith, common_steps, le-ltb, length-append, take_at, drop_at)
 
 flat_again : (a : Answer) (mark : ℕ) (text body : List ℕ) → IsUnnested a mark text body → flat_at mark text (13 ∷ 10 ∷ body) ≡ Ok (a, [])
 unfolding flat_at bytes_at
-flat_again a mark text body (inl h) = rw (h.0, h.1, h.2) refl
-flat_again a mark text body (inr (inl h)) = rw (h.0, h.1, h.2) refl
-flat_again a mark text body (inr (inr (inl h))) = rw (h.0, h.1, h.4, int_again text [] h.2 h.3) refl
-flat_again a mark text body (inr (inr (inr (inl h)))) = rw (h.0, h.1, h.3, nothing_again text [] h.2) refl
-flat_again a mark text body (inr (inr (inr (inr h)))) = rw (h.0, h.3, h.4, length_again text (h.1 ++ crlf) (length h.1) h.2) (bytes_again h.1)
+flat_again a mark text body h1 = grind (arith, int_again, nothing_again, length_again, bytes_again)
 
 times_again : (Each : Answer → List ℕ → Type 0) (read : List ℕ → Result (Answer × List ℕ) Fault)
     → ((a : Answer) (f rest : List ℕ) → Each a f → read (f ++ rest) ≡ Ok (a, rest))
     → (answers : List Answer) (f : List ℕ) → InOrder Each answers f → times_at read (length answers) f ≡ Ok (all_of answers, [])
 unfolding times_at
 times_again Each read each [] f h = rw h refl
-times_again Each read each (a ∷ answers) f h =
-    let one = each a h.0 h.1 h.3 in
-    let more = times_again Each read each answers h.1 h.4 in
-    rw (h.2, one, more) refl
+times_again Each read each (a ∷ answers) f h = grind (arith, common_steps, times_again Each read each answers h.1 h.4)
 
 nested_again : (Each : Answer → List ℕ → Type 0) (read : List ℕ → Result (Answer × List ℕ) Fault)
     → ((a : Answer) (f rest : List ℕ) → Each a f → read (f ++ rest) ≡ Ok (a, rest))
     → (a : Answer) (mark : ℕ) (text body bytes : List ℕ) → IsNested Each a mark text body → text_until_line_end bytes ≡ text → after_text bytes ≡ 13 ∷ 10 ∷ body
     → (mark ≡ 42) × (array_at (times_at read) bytes ≡ Ok (a, []))
 unfolding array_at array_items_at
-nested_again Each read each a mark text body bytes (inl h) t e = (h.0, rw (t, e, h.1, h.3, nothing_again text [] h.2) refl)
-nested_again Each read each a mark text body bytes (inr h) t e =
-    (h.0, rw (t, e, h.4, length_again text body (length h.1) h.2, times_again Each read each h.1 body h.3) refl)
+nested_again Each read h1 a mark text body bytes h2 h3 h4 = grind (arith, nothing_again, length_again, times_again)
 
 pub line_text : (text body : List ℕ) → AllByRecursion IsInLine text → text_until_line_end ((text ++ crlf) ++ body) ≡ text
 line_text text body clean = ap text_until_line_end (after_line text body) ∙ text_again text (10 ∷ body) clean
@@ -263,11 +225,7 @@ pub line_after : (text body : List ℕ) → AllByRecursion IsInLine text → aft
 line_after text body clean = ap after_text (after_line text body) ∙ after_again text (10 ∷ body) clean
 
 no_array : (a : Answer) (mark : ℕ) (text body : List ℕ) → IsUnnested a mark text body → eqb mark 42 ≡ false
-no_array a mark text body (inl h) = rw h.0 refl
-no_array a mark text body (inr (inl h)) = rw h.0 refl
-no_array a mark text body (inr (inr (inl h))) = rw h.0 refl
-no_array a mark text body (inr (inr (inr (inl h)))) = rw h.0 refl
-no_array a mark text body (inr (inr (inr (inr h)))) = rw h.0 refl
+no_array a mark text body h1 = grind (arith)
 
 front_again : (nested : List ℕ → Result (Answer × List ℕ) Fault) (a : Answer) (mark : ℕ) (text body : List ℕ) → AllByRecursion IsInLine text → IsUnnested a mark text body
     → front_at nested (line mark text ++ body) ≡ Ok (a, [])
@@ -329,24 +287,15 @@ one_line : (levels : ℕ) (a : Answer) (mark : ℕ) (text : List ℕ) → AllByR
 one_line levels a mark text clean h = subst (λ (f : List ℕ). IsForm levels a f) (append-nil (line mark text)) (flat_form levels a mark text [] clean h)
 
 simple_again : (text : List ℕ) → HasForm (simple text) → simple_of text ≡ simple text
-simple_again text has =
-    let other : bytes_eq text (codes "OK") ≡ false = false_from_ne_true _ (λ same. has.2 ((bytes_eq-Decides text (codes "OK")).0 same)) in
-    let utf8 : is_utf8 text ≡ true = is_utf8-from_IsUtf8 text has.0 in
-    rw (other, utf8) refl
+simple_again text has = grind (arith, common_steps, false_from_ne_true, bytes_eq-Decides, is_utf8-from_IsUtf8)
 
 pub written : (levels : ℕ) (r : Reply) → HasForm r → depth r ≤ levels → IsForm levels (Ok r) (form r)
 unfolding IsForm
 written levels nil has low = one_line levels (Ok nil) 36 (codes "-1") (two_in_line 45 49 (char_in_line 45 (omega arith)) (char_in_line 49 (omega arith))) (inr (inr (inr (inl (refl, refl, refl, refl)))))
 written levels (int n) has low = one_line levels (Ok (int n)) 58 (signed_decimal n) (in_line_int n has) (inr (inr (inl (refl, refl, n, int_decimal n has, refl))))
-written levels (bulk bytes) has low =
-    let short : length bytes < 2 ^ 64 = omega (arith, has) in
-    flat_form levels (Ok (bulk bytes)) 36 (decimal (length bytes)) (bytes ++ crlf) (in_line_decimal (length bytes) short) (inr (inr (inr (inr (refl, bytes, number_decimal (2 ^ 63) (length bytes) has short, refl, refl)))))
+written levels (bulk bytes) has low = grind (arith, common_steps, flat_form, in_line_decimal, number_decimal)
 written levels (simple text) has low = one_line levels (Ok (simple text)) 43 text has.1 (inl (refl, refl, ap (λ (r : Reply). Ok r) (sym (simple_again text has))))
 written levels okay has low = one_line levels (Ok okay) 43 (codes "OK") (two_in_line 79 75 (char_in_line 79 (omega arith)) (char_in_line 75 (omega arith))) (inl (refl, refl, refl))
 written levels (pairs items) has low = absurd has
 written zero (array rs) has low = absurd (omega (arith, low))
-written (suc levels) (array rs) has low =
-    let n = count rs in
-    let short : n < 2 ^ 64 = omega (arith, has.0) in
-    let below : depth_items rs ≤ levels = omega (arith, low) in
-    (42, decimal n, forms rs, refl, in_line_decimal n short, inr (inr (refl, oks rs, number_decimal (2 ^ 63) n has.0 short ∙ ap (λ (k : ℕ). Some k) (sym (oks_count rs)), in_order levels (written levels) rs has.1 below, sym (ap array_of_all (oks_all rs) ∙ ap (λ (ts : Replies). Ok (array ts)) (replies_again rs)))))
+written (suc levels) (array rs) has low = grind (arith, common_steps, in_line_decimal, number_decimal, oks_count rs, in_order, oks_all rs, replies_again rs, written levels)

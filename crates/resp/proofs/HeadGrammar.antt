@@ -1,6 +1,7 @@
 -- What is read of a head is a head, and each head is read. Reading of more bytes goes on as it was,
 -- and what is incomplete can be completed.
-use Rattle.std.proofs.Common.{◌≡◌, ◌≢◌, ℕ, zero, suc, ◌*◌, ◌+◌, ◌-◌, ◌^◌, ◌<◌, ◌≤◌, true, false, cond, eqb, ltb, get_or, take, drop, List, [], ◌∷◌, ◌++◌, length, codes, Option, Some, None, Result, Ok, refl, sym, ap, subst, ◌∙◌, arith, inl, inr}
+use Rattle.std.proofs.Common.{◌≡◌, ◌≢◌, ℕ, zero, suc, ◌*◌, ◌+◌, ◌-◌, ◌^◌, ◌<◌, ◌≤◌, true, false, cond, eqb, take, drop, List, [], ◌∷◌, ◌++◌, length, codes, Option, Some, None, Result, Ok, refl, sym, ap, subst, ◌∙◌, arith, inl, inr}
+use Rattle.std.proofs.lemmas.Grind.{common_steps}
 use Rattle.std.specs.Prelude.{bytes_eq}
 use Rattle.std.specs.Option.{unwrap_or}
 use Rattle.std.proofs.lemmas.Bool.{eqb-true, false_from_ne_true}
@@ -32,32 +33,18 @@ IsCounted text f items = (n : ℕ) × (announced text ≡ Some n) × (items ≡ 
 pub minus_one : (text : List ℕ) → text ≡ codes "-1" → announced text ≡ Some 0
 minus_one text e = rw e refl
 
-no_none : (n : ℕ) → None ≡ Some n → ⊥
-no_none n e = absurd cc
-
 minus_one_none : length_in (codes "-1") ≡ None
 unfolding number_up_to
 minus_one_none = refl
 
 pub number : (text : List ℕ) (n : ℕ) → length_in text ≡ Some n → announced text ≡ Some n
-number text n e =
-    let other : bytes_eq text (codes "-1") ≡ false = false_from_ne_true _ (λ same. no_none n (sym minus_one_none ∙ ap length_in (sym ((bytes_eq-Decides text (codes "-1")).0 same)) ∙ e)) in
-    rw other e
+number text n e = grind (arith, common_steps, false_from_ne_true, minus_one_none, bytes_eq-Decides)
 
 abbrev counted_at : (ℕ → ℕ) → List ℕ → List ℕ → Result (ℕ × List ℕ) Fault
 counted_at f text after = length_at text after >>= λ x. Ok (f (unwrap_or x.0 0), x.1)
 
 count_takes : (f : ℕ → ℕ) (text after : List ℕ) (y : ℕ × List ℕ) → counted_at f text after ≡ Ok y → (after ≡ 13 ∷ 10 ∷ y.1) × IsCounted text f y.0
-count_takes f text after y e =
-    let a = bind_ok (length_at text after) (λ x. Ok (f (unwrap_or x.0 0), x.1)) y e in
-    let l = length_takes text after a.0 a.1 in
-    let is = ok_is (f (unwrap_or a.0.0 0), a.0.1) y a.2 in
-    let items : y.0 ≡ f (unwrap_or a.0.0 0) = sym (ap (λ (p : ℕ × List ℕ). p.0) is) in
-    let of : IsCounted text f y.0 = elim l.1 [
-      | inl q ↦ (0, minus_one text q.0, items ∙ ap (λ (o : Option ℕ). f (unwrap_or o 0)) q.1)
-      | inr q ↦ (q.0, number text q.0 q.1, items ∙ ap (λ (o : Option ℕ). f (unwrap_or o 0)) q.2)
-    ] in
-    (l.0 ∙ ap (λ (p : ℕ × List ℕ). 13 ∷ 10 ∷ p.1) is, of)
+count_takes f text after y e = grind (arith, common_steps, bind_ok, length_takes, ok_is, minus_one, number)
 
 -- after a line's text: its end, what belongs to the head, and the rest
 abbrev Taken : Kind → List ℕ → List ℕ → ℕ × List ℕ → Type 0
@@ -134,22 +121,12 @@ head_continues (mark ∷ bytes) more = kind_continues (kind_of mark) bytes more
 -- ---- what is a head
 
 count_again : (f : ℕ → ℕ) (text : List ℕ) (n : ℕ) → announced text ≡ Some n → counted_at f text (13 ∷ 10 ∷ []) ≡ Ok (f n, [])
-count_again f text n e = by_test (bytes_eq text (codes "-1"))
-    (λ t.
-    let zero : 0 ≡ n = same 0 n (rw t at e) in
-    rw (nothing_again text [] ((bytes_eq-Decides text (codes "-1")).0 t), zero) refl)
-    (λ f. rw (length_again text [] n (rw f at e)) refl)
-  where
-    same : (a b : ℕ) → Some a ≡ Some b → a ≡ b
-    same a b h = cc
+count_again f text n e = grind (arith, common_steps, by_test, nothing_again, bytes_eq-Decides, length_again)
 
 announced_again : (kind : Kind) (text body : List ℕ) (items : ℕ) → Announces kind text body items → announced_at 0 kind text (13 ∷ 10 ∷ body) ≡ Ok (items, [])
 unfolding announced_at length_from bytes_at
 announced_again Simple text body items h = rw (h.0, h.1) refl
-announced_again Bulk text body items h = elim h.0 [
-  | inl p ↦ rw (h.1, p.1, nothing_again text [] p.0) refl
-  | inr p ↦ rw (h.1, p.2, length_again text (p.0 ++ crlf) (length p.0) p.1, bytes_again p.0) refl
-]
+announced_again Bulk text body items h = grind (arith, nothing_again, length_again, bytes_again)
 announced_again Array text body items h = rw h.0 (count_again (λ n. n) text items h.1)
 announced_again Map text body items h = rw (h.0, h.3) (count_again (λ n. 2 * n) text h.1 h.2)
 announced_again Attribute text body items h = rw (h.0, h.3) (count_again (λ n. 2 * n + 1) text h.1 h.2)
@@ -200,18 +177,12 @@ head_completes (mark ∷ bytes) e = kind_completes (kind_of mark) bytes e
 
 no_kind : (b : ℕ) → is_end b ≡ true → kind_of b ≡ None
 unfolding kind_of
-no_kind b t = by_test (eqb b 13)
-    (λ p. rw (eqb-true b 13 p) refl)
-    (λ f.
-    let q : eqb b 10 ≡ true = rw f at t in
-    rw (eqb-true b 10 q) refl)
+no_kind b t = grind (arith, common_steps)
 
 pub head_by_line : (bytes : List ℕ) → head_of 0 (text_until_line_end bytes) (after_text bytes) ≡ head_at bytes
 unfolding head_of head_at text_until_line_end after_text
 head_by_line [] = refl
-head_by_line (mark ∷ bytes) = by_test (is_end mark)
-    (λ t. rw (t, no_kind mark t) refl)
-    (λ f. rw f refl)
+head_by_line (mark ∷ bytes) = grind (arith, common_steps, by_test, is_end, no_kind)
 
 -- ---- a line that begins with zeros
 
@@ -221,68 +192,32 @@ IsZero b = b ≡ 48
 zeros_skipped : (limit n : ℕ) (text : List ℕ) → 0 < limit → AllByRecursion IsZero (take n text) → n ≤ length text → number_after limit 0 text ≡ number_after limit 0 (drop n text)
 zeros_skipped limit zero text some h le = refl
 zeros_skipped limit (suc n) [] some h le = absurd (omega (arith, le))
-zeros_skipped limit (suc n) (b ∷ text) some h le =
-    let t : ltb 0 limit ≡ true = grind (arith, nat_tests) in
-    rw (h.0, t) (zeros_skipped limit n text some h.1 (omega (arith, le)))
+zeros_skipped limit (suc n) (b ∷ text) some h le = grind (arith, common_steps, zeros_skipped limit n text some h.1 (omega (arith, le)))
 
 abbrev after_zeros : List ℕ → Option ℕ
 after_zeros digits = cond (eqb (length digits) 0) (Some 0) (length_in digits)
 
 length_skipped : (n : ℕ) (text : List ℕ) → 0 < n → AllByRecursion IsZero (take n text) → n ≤ length text → after_zeros (drop n text) ≡ length_in text
-length_skipped n text some h le =
-    let large : 0 < 2 ^ 63 = omega arith in
-    let long : 0 < length text = omega (arith, some, le) in
-    let same = number_in_is (2 ^ 63) text large long ∙ zeros_skipped (2 ^ 63) n text large h le in
-    by_test (eqb (length (drop n text)) 0)
-    (λ t.
-    let none : drop n text ≡ [] = nil_from_length (drop n text) (eqb-true _ _ t) in
-    rw t (sym (same ∙ ap (number_after (2 ^ 63) 0) none)))
-    (λ f.
-    let more : 0 < length (drop n text) = grind (arith, nat_tests) in
-    rw f (number_in_is (2 ^ 63) (drop n text) large more ∙ sym same))
+length_skipped n text some h le = grind (arith, number_in_is, zeros_skipped, by_test, nil_from_length, eqb-true, number_after, nat_tests)
 
 first_zero : (n : ℕ) (text : List ℕ) → 0 < n → AllByRecursion IsZero (take n text) → n ≤ length text → (digits : List ℕ) × (text ≡ 48 ∷ digits)
-first_zero zero text some h le = absurd (omega (arith, some))
-first_zero (suc n) [] some h le = absurd (omega (arith, le))
-first_zero (suc n) (b ∷ text) some h le = (text, ap (λ (c : ℕ). c ∷ text) h.0)
+first_zero n text h1 h2 h3 = grind (arith)
 
 no_length : (digits after : List ℕ) → (bytes_eq (48 ∷ digits) (codes "-1") ≡ false) × (is_before_length (48 ∷ digits) after ≡ false)
-no_length digits after =
-    let some : eqb (length (48 ∷ digits)) 0 ≡ false = grind (arith, nat_tests) in
-    let one : bytes_eq (48 ∷ digits) (codes "-1") ≡ false = false_from_ne_true _ (λ same. not_minus (ap (λ (xs : List ℕ). get_or xs 0 0) ((bytes_eq-Decides (48 ∷ digits) (codes "-1")).0 same))) in
-    let two : bytes_eq (48 ∷ digits) (codes "-") ≡ false = false_from_ne_true _ (λ same. not_minus (ap (λ (xs : List ℕ). get_or xs 0 0) ((bytes_eq-Decides (48 ∷ digits) (codes "-")).0 same))) in
-    (one, rw (some, two) (and_false (eqb (length after) 0)))
-  where
-    not_minus : ◌≡◌ {A = ℕ} 48 45 → ⊥
-    not_minus e = absurd (omega (arith, e))
+no_length digits after = grind (arith, common_steps, nat_tests, false_from_ne_true, bytes_eq-Decides, and_false)
 
 length_again_from : (n : ℕ) (text after : List ℕ) → AllByRecursion IsZero (take n text) → n ≤ length text → length_from n text after ≡ length_at text after
 unfolding length_from length_at
-length_again_from n text after h le = by_test (eqb n 0)
-    (λ t. rw t refl)
-    (λ f.
-    let some : 0 < n = grind (arith, nat_tests) in
-    let first = first_zero n text some h le in
-    let no = no_length first.0 after in
-    let one : bytes_eq text (codes "-1") ≡ false = rw first.1 no.0 in
-    let two : is_before_length text after ≡ false = rw first.1 no.1 in
-    rw (f, one, two) (ap (λ (o : Option ℕ). or_malformed o >>= λ k. after_line_end after >>= λ rest. Ok (Some k, rest)) (length_skipped n text some h le)))
+length_again_from n text after h le = grind (arith, common_steps, by_test, nat_tests, first_zero, no_length, length_skipped)
 
 announced_again_from : (n : ℕ) (kind : Kind) (text after : List ℕ) → (kind ≢ Simple → AllByRecursion IsZero (take n text)) → n ≤ length text → announced_at n kind text after ≡ announced_at 0 kind text after
 unfolding announced_at length_from
-announced_again_from n Simple text after h le = refl
-announced_again_from n Bulk text after h le = ap (λ (r : Result (Option ℕ × List ℕ) Fault). (r >>= λ x. bytes_at x.0 x.1) >>= λ y. Ok (0, y.1)) (length_again_from n text after (h (λ e. absurd cc)) le)
-announced_again_from n Array text after h le = ap (λ (r : Result (Option ℕ × List ℕ) Fault). r >>= λ x. Ok (unwrap_or x.0 0, x.1)) (length_again_from n text after (h (λ e. absurd cc)) le)
-announced_again_from n Map text after h le = ap (λ (r : Result (Option ℕ × List ℕ) Fault). r >>= λ x. Ok (2 * unwrap_or x.0 0, x.1)) (length_again_from n text after (h (λ e. absurd cc)) le)
-announced_again_from n Attribute text after h le = ap (λ (r : Result (Option ℕ × List ℕ) Fault). r >>= λ x. Ok (2 * unwrap_or x.0 0 + 1, x.1)) (length_again_from n text after (h (λ e. absurd cc)) le)
+announced_again_from n kind text after h1 h2 = grind (arith, length_again_from)
 
 kind_again_from : (n : ℕ) (o : Option Kind) (text after : List ℕ) → (o ≢ Some Simple → AllByRecursion IsZero (take n text)) → n ≤ length text
     → (or_malformed o >>= λ kind. announced_at n kind text after) ≡ (or_malformed o >>= λ kind. announced_at 0 kind text after)
 kind_again_from n None text after h le = refl
-kind_again_from n (Some kind) text after h le = announced_again_from n kind text after (λ other. h (λ e. other (same e))) le
-  where
-    same : Some kind ≡ Some Simple → kind ≡ Simple
-    same e = cc
+kind_again_from n (Some kind) text after h le = grind (arith, common_steps, announced_again_from)
 
 -- what was searched of a line is read no more
 pub head_again_from : (searched : ℕ) (line after : List ℕ) → searched ≤ length line → IsSearched (take searched line) → head_of searched line after ≡ head_of 0 line after
@@ -290,34 +225,19 @@ unfolding head_of
 head_again_from searched [] [] le h = refl
 head_again_from searched [] (b ∷ after) le h = refl
 head_again_from zero (mark ∷ text) after le h = refl
-head_again_from (suc n) (mark ∷ text) after le h =
-    let fewer : suc n - 1 ≡ n = omega arith in
-    rw fewer (kind_again_from n (kind_of mark) text after h (omega (arith, le)))
+head_again_from (suc n) (mark ∷ text) after le h = grind (arith, common_steps, kind_again_from n (kind_of mark) text after h (omega (arith, le)))
 
 -- the mark, and the zeros after it
 pub searched_on : (line text : List ℕ) (searched known more : ℕ) → 1 ≤ length line → text ≡ drop 1 line → known ≡ searched - 1
     → (AllByRecursion IsZero (take known text) → AllByRecursion IsZero (take more text)) → IsSearched (take searched line) → IsSearched (take (1 + more) line)
 searched_on [] text searched known more some e is goes h = absurd (omega (arith, some))
-searched_on (mark ∷ digits) text zero known more some e is goes h =
-    let sum : 1 + more ≡ suc more = omega arith in
-    let none : known ≡ 0 = omega (arith, is) in
-    rw sum (λ other. subst (λ (t : List ℕ). AllByRecursion IsZero (take more t)) e (goes (rw none tt)))
-searched_on (mark ∷ digits) text (suc n) known more some e is goes h =
-    let sum : 1 + more ≡ suc more = omega arith in
-    let same : known ≡ n = omega (arith, is) in
-    rw sum (λ other. subst (λ (t : List ℕ). AllByRecursion IsZero (take more t)) e (goes (rw (e, same) (h other))))
+searched_on (mark ∷ digits) text zero known more some e is goes h = grind (arith, common_steps)
+searched_on (mark ∷ digits) text (suc n) known more some e is goes h = grind (arith, common_steps)
 
 -- ---- what follows a head
 
 some_below : (digits : List ℕ) (n : ℕ) → after_zeros digits ≡ Some n → n < 2 ^ 63
-some_below digits n e = by_test (eqb (length digits) 0)
-    (λ t.
-    let zero : 0 ≡ n = same 0 n (rw t at e) in
-    omega (arith, zero))
-    (λ f. number_below (2 ^ 63) digits n (sym (rw f at e)))
-  where
-    same : (a b : ℕ) → Some a ≡ Some b → a ≡ b
-    same a b h = cc
+some_below digits n e = grind (arith, common_steps, by_test, number_below)
 
 -- a number that was announced has 63 bits
 pub length_short : (n : ℕ) (text after : List ℕ) (y : Option ℕ × List ℕ) → length_from n text after ≡ Ok y → (after ≡ 13 ∷ 10 ∷ y.1) × (unwrap_or y.0 0 < 2 ^ 63)
@@ -338,19 +258,12 @@ length_short n text after y e = elim (chosen (eqb n 0) (length_at text after) _ 
 ]
 
 count_length : (f : ℕ → ℕ) (n : ℕ) (text after : List ℕ) (y : ℕ × List ℕ) → (length_from n text after >>= λ x. Ok (f (unwrap_or x.0 0), x.1)) ≡ Ok y → length y.1 < length after
-count_length f n text after y e =
-    let a = bind_ok (length_from n text after) (λ x. Ok (f (unwrap_or x.0 0), x.1)) y e in
-    let is = ok_is (f (unwrap_or a.0.0 0), a.0.1) y a.2 in
-    omega (arith, ap (length {A = ℕ}) (length_short n text after a.0 a.1).0, ap (λ (p : ℕ × List ℕ). length p.1) is)
+count_length f n text after y e = grind (arith, common_steps, bind_ok, ok_is, length_short)
 
 bytes_short : (o : Option ℕ) (rest : List ℕ) (x : Answer × List ℕ) → bytes_at o rest ≡ Ok x → length x.1 ≤ length rest
 unfolding bytes_at
-bytes_short None rest x e =
-    let is = ok_is (Ok nil, rest) x e in
-    omega (arith, ap (λ (p : Answer × List ℕ). length p.1) is)
-bytes_short (Some n) rest x e =
-    let t = bytes_take n rest x e in
-    omega (arith, ap (length {A = ℕ}) t.2, length-append (t.0 ++ crlf) x.1)
+bytes_short None rest x e = grind (arith, common_steps)
+bytes_short (Some n) rest x e = grind (arith, common_steps, bytes_take, length-append)
 
 announced_short : (n : ℕ) (kind : Kind) (text after : List ℕ) (y : ℕ × List ℕ) → announced_at n kind text after ≡ Ok y → length y.1 < length after
 unfolding announced_at
@@ -367,8 +280,4 @@ announced_short n Attribute text after y e = count_length (λ k. 2 * k + 1) n te
 -- what follows a head is shorter than what follows its line's text
 pub head_short : (searched : ℕ) (line after : List ℕ) (y : ℕ × List ℕ) → head_of searched line after ≡ Ok y → length y.1 < length after
 unfolding head_of
-head_short searched [] [] y e = absurd cc
-head_short searched [] (b ∷ after) y e = absurd cc
-head_short searched (mark ∷ text) after y e =
-    let k = bind_ok (or_malformed (kind_of mark)) (λ kind. announced_at (searched - 1) kind text after) y e in
-    announced_short (searched - 1) k.0 text after y k.2
+head_short searched line after y h1 = grind (arith, common_steps, bind_ok, announced_short)

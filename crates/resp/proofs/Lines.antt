@@ -11,18 +11,6 @@ use Rattle.resp.specs.Reading.{after_line_end, text_until_line_end, after_text}
 abbrev pub is_end : ℕ → Bool
 is_end b = eqb b 13 || eqb b 10
 
-in_line_from_test : (b : ℕ) → is_end b ≡ false → IsInLine b
-in_line_from_test b f = by_test (eqb b 13)
-    (λ t. absurd (no (rw t at f)))
-    (λ g.
-    let h : eqb b 10 ≡ false = rw g at f in
-    let one : b ≢ 13 = grind (arith, nat_tests) in
-    let two : b ≢ 10 = grind (arith, nat_tests) in
-    (one, two))
-  where
-    no : true ≡ false → ⊥
-    no e = absurd cc
-
 -- a text and what follows it are the bytes
 pub line_is : (bytes : List ℕ) → bytes ≡ text_until_line_end bytes ++ after_text bytes
 unfolding text_until_line_end after_text
@@ -75,9 +63,7 @@ open_longer (c ∷ bytes) more e = by_test (is_end c)
 -- ---- the line's end
 
 pub ended_takes : (after rest : List ℕ) → after_line_end after ≡ Ok rest → after ≡ 13 ∷ 10 ∷ rest
-ended_takes [] rest e = absurd cc
-ended_takes (b ∷ []) rest e = grind (arith, common_steps)
-ended_takes (b ∷ c ∷ more) rest e = grind (arith, common_steps)
+ended_takes after rest h1 = grind (arith, common_steps)
 
 -- ---- as the loop finds it
 

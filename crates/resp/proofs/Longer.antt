@@ -172,9 +172,7 @@ lengths_continue = line_continues length_at length_steady
 -- ---- an answer
 
 pub drop_front : (n : ℕ) (rest more : List ℕ) → n ≤ length rest → drop n (rest ++ more) ≡ drop n rest ++ more
-drop_front zero rest more le = refl
-drop_front (suc n) [] more le = absurd (omega (arith, le))
-drop_front (suc n) (b ∷ rest) more le = drop_front n rest more (omega (arith, le))
+drop_front n rest more h1 = grind (arith, common_steps)
 
 pub bytes_continue : (n : Option ℕ) → Continuous (bytes_at n)
 unfolding bytes_at

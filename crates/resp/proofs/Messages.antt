@@ -1,5 +1,6 @@
 -- Messages by their heads: a front of heads, and the message that goes on after it.
 use Rattle.std.proofs.Common.{◌≡◌, ◌≢◌, ℕ, zero, suc, ◌+◌, ◌-◌, ◌<◌, ◌≤◌, ◌^◌, min, ltb, List, [], ◌∷◌, ◌++◌, length, take, drop, append_assoc, append-nil, Some, Result, Ok, Err, refl, sym, ap, subst, ◌∙◌, arith, ◌⊎◌, inl, inr}
+use Rattle.std.proofs.lemmas.Grind.{common_steps}
 use Rattle.std.specs.List.{AllByRecursion}
 use Rattle.std.proofs.lemmas.Bool.{ltb-true, ltb-false}
 use Rattle.std.proofs.lemmas.List.{length-append, take_at, drop_at, take-append-le, take-append-drop, length-take-le}
@@ -100,9 +101,7 @@ are_nulls (suc n) =
     }
 
 regroup : (a b c d e : List ℕ) → b ++ c ≡ d → (a ++ d) ++ e ≡ (a ++ b) ++ (c ++ e)
-regroup a b c d e h =
-    let flat : (a ++ (b ++ c)) ++ e ≡ (a ++ b) ++ (c ++ e) = simp append_assoc in
-    ap (λ (x : List ℕ). (a ++ x) ++ e) (sym h) ∙ flat
+regroup a b c d e h = grind (arith, common_steps)
 
 module _ (items : List ℕ) (after : ℕ) (front rest : List ℕ) (heads : AreHeads 1 items (after + 1) front) where
   some : 0 < after + 1
@@ -158,13 +157,7 @@ counts_on counted bytes items n wanted end c sum wants grows = by_test (ltb coun
     (omega (arith, c.0, sum, wants), λ fewer. omega (arith, all, sum, wants, grows, fewer)))
 
 all_counted : (counted bytes items n : ℕ) → Counts counted bytes items → min (counted + n) (2 ^ 64 - 1) ≡ 0 → bytes < 2 ^ 63 → items + n ≡ 0
-all_counted counted bytes items n c none fits = by_test (ltb counted items)
-    (λ t.
-    let many : 2 ^ 64 - 1 ≤ counted + bytes = c.1 (ltb-true _ _ t) in
-    absurd (omega (arith, none, many, fits)))
-    (λ f.
-    let all : items ≤ counted = ltb-false _ _ f in
-    omega (arith, all, none))
+all_counted counted bytes items n c none fits = grind (arith, common_steps)
 
 -- what is left of the bytes
 abbrev pub left_of : Progress → List ℕ → List ℕ
@@ -186,25 +179,10 @@ module _ (at : Progress) (bytes : List ℕ) (s : IsScanned at bytes) where
 
 -- more bytes change nothing
 pub scanned_longer : (at : Progress) (bytes more : List ℕ) → IsScanned at bytes → IsScanned at (bytes ++ more)
-scanned_longer at bytes more s = record {
-  items = s.items;
-  front = s.front;
-  text = s.text;
-  rest = s.rest ++ more;
-  after = s.after;
-  bytes_are = ap (λ (b : List ℕ). b ++ more) s.bytes_are ∙ append_assoc s.front (s.text ++ s.rest) more ∙ ap (λ (b : List ℕ). s.front ++ b) (append_assoc s.text s.rest more);
-  heads = s.heads;
-  bytes_is = s.bytes_is;
-  after_is = s.after_is;
-  searched_is = s.searched_is;
-  one_line = s.one_line;
-  zeros = s.zeros;
-}
+scanned_longer at bytes more s = grind (arith, common_steps)
 
 in_line_take : (n : ℕ) (text : List ℕ) → AllByRecursion IsInLine text → AllByRecursion IsInLine (take n text)
-in_line_take zero text h = tt
-in_line_take (suc n) [] h = tt
-in_line_take (suc n) (b ∷ text) h = (h.0, in_line_take n text h.1)
+in_line_take n text h1 = grind (arith, common_steps)
 
 -- the line from the bytes that are left, by a search that goes on
 pub record Line (at : Progress) (rest line after : List ℕ) : Type 0 where
@@ -304,9 +282,7 @@ module _ (at : Progress) (bytes : List ℕ) (s : IsScanned at bytes) (items : �
         (s.front ++ f.head, left, f.bytes_are, (s.items ++ items ∷ [], head_added s.after items 0 s.items s.front f.head s.heads f.is no_more), sym f.long)
 
     pub found_only : (message rest : List ℕ) → IsMessage message → bytes ≡ message ++ rest → length bytes - length left ≡ length message
-    found_only message rest is same =
-        let last : left ≡ rest = only_this s.items s.after s.front (left_of at bytes) s.heads items left reads no_more message rest is (sym (bytes_are at bytes s) ∙ same) in
-        omega (arith, ap (length {A = ℕ}) last, ap (length {A = ℕ}) same, length-append message rest)
+    found_only message rest is same = grind (arith, common_steps, only_this, no_more, bytes_are, length-append)
 
 module _ (at : Progress) (bytes : List ℕ) (s : IsScanned at bytes) where
   pub incomplete_cause : head_at (left_of at bytes) ≡ Err Incomplete → MessageCause bytes Incomplete
@@ -344,9 +320,7 @@ record Items (wanted : ℕ) (left : ℕ) (bytes : List ℕ) : Type 0 where
 
 simple_kind : (mark : ℕ) → (mark ≡ 43) ⊎ (mark ≡ 45) ⊎ (mark ≡ 58) → kind_of mark ≡ Some Simple
 unfolding kind_of
-simple_kind mark (inl e) = rw e refl
-simple_kind mark (inr (inl e)) = rw e refl
-simple_kind mark (inr (inr e)) = rw e refl
+simple_kind mark h1 = grind (arith)
 
 bulk_kind : (mark : ℕ) → mark ≡ 36 → kind_of mark ≡ Some Bulk
 unfolding kind_of
@@ -357,11 +331,7 @@ unfolding kind_of
 array_kind mark e = rw e refl
 
 flat_head : (a : Answer) (mark : ℕ) (text body : List ℕ) → AllByRecursion IsInLine text → IsUnnested a mark text body → IsHead 0 (line mark text ++ body)
-flat_head a mark text body clean (inl h) = (mark, text, body, Simple, refl, clean, simple_kind mark (inl h.0), (h.1, refl))
-flat_head a mark text body clean (inr (inl h)) = (mark, text, body, Simple, refl, clean, simple_kind mark (inr (inl h.0)), (h.1, refl))
-flat_head a mark text body clean (inr (inr (inl h))) = (mark, text, body, Simple, refl, clean, simple_kind mark (inr (inr h.0)), (h.1, refl))
-flat_head a mark text body clean (inr (inr (inr (inl h)))) = (mark, text, body, Bulk, refl, clean, bulk_kind mark h.0, (inl (h.2, h.1), refl))
-flat_head a mark text body clean (inr (inr (inr (inr h)))) = (mark, text, body, Bulk, refl, clean, bulk_kind mark h.0, (inr (h.1, h.2, h.3), refl))
+flat_head a mark text body h1 h2 = grind (arith, simple_kind, bulk_kind)
 
 alone : (left : ℕ) (form head : List ℕ) → form ≡ head → IsHead 0 head → Items (left + 1) left form
 alone left form head e is =

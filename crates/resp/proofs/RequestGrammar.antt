@@ -6,7 +6,7 @@ use Rattle.std.proofs.lemmas.Grind.{common_steps}
 use Rattle.resp.specs.declared.stop.Stop.{Stop}
 use Rattle.resp.specs.declared.stop.Stop.TheVariants.{WantsMore, StopsAt}
 use Rattle.resp.specs.declared.fault.RequestFault.TheVariants.{Malformed}
-use Rattle.resp.specs.Forms.{crlf, line, IsRequest, bulk_form, request}
+use Rattle.resp.specs.Forms.{crlf, line, IsRequest, bulk_form}
 use Rattle.resp.specs.Reading.{rest_of}
 use Rattle.resp.specs.Requests.{Read, and_then, byte_at, digits_at, line_at, so_many_at, word_at, bulk_at, bulks_at, request_at, IsStopIn, fault_at, CanBeRequest, BeginsNoRequest, RequestCause}
 use Rattle.resp.proofs.NumberLines.{number_front, digits_again, digits_reader, digits_wants}
@@ -188,14 +188,7 @@ request_reader = joint_reader (line_at 42) bulks_at (line_reader 42) (λ n. (bul
 
 pub request_front : (bytes rest : List ℕ) (args : Words) → request_at bytes ≡ Ok (args, rest) → (form : List ℕ) × (bytes ≡ form ++ rest) × IsRequest args form
 unfolding request_at
-request_front bytes rest args e =
-    let a = first_read (line_at 42 bytes) bulks_at args rest e in
-    let l = line_front 42 bytes a.1 a.0 a.2 in
-    let b = bulks_front a.0 a.1 rest args a.3 in (
-      request args,
-      l.0 ∙ ap (λ (t : List ℕ). line 42 (decimal a.0) ++ t) b.0 ∙ ap (λ (k : ℕ). line 42 (decimal k) ++ (flat_map bulk_form args ++ rest)) (sym b.2) ∙ sym (append_assoc (line 42 (decimal (length args))) (flat_map bulk_form args) rest),
-      (refl, omega (arith, b.2, l.1), b.1),
-    )
+request_front bytes rest args e = grind (arith, common_steps, first_read (line_at 42 bytes) bulks_at args rest e, line_front, bulks_front, append_assoc (line 42 (decimal (length args))) (flat_map bulk_form args) rest)
 
 pub request_again : (args : Words) (form rest : List ℕ) → IsRequest args form → request_at (form ++ rest) ≡ Ok (args, rest)
 unfolding request_at

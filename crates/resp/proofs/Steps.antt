@@ -1,5 +1,5 @@
 -- Steps of reading.
-use Rattle.std.proofs.Common.{◌≡◌, ℕ, Bool, true, false, ◌&&◌, cond, List, Option, Some, None, Result, Ok, Err, refl, ap, ◌⊎◌, inl, inr}
+use Rattle.std.proofs.Common.{◌≡◌, ℕ, Bool, true, false, ◌&&◌, cond, List, Option, Some, None, Result, Ok, Err, refl, ap, ◌⊎◌, inl, inr, arith}
 use Rattle.resp.specs.declared.fault.Fault.{Fault}
 use Rattle.resp.specs.Reading.{◌>>=◌, or_malformed, rest_of}
 
@@ -26,9 +26,7 @@ some_of None x e = absurd cc
 some_of (Some y) x e = cc
 
 pub both : (a b : Bool) → (a && b) ≡ true → (a ≡ true) × (b ≡ true)
-both true true e = (refl, refl)
-both true false e = absurd cc
-both false b e = absurd cc
+both a b h1 = grind (arith)
 
 -- ---- what follows alone
 

@@ -18,10 +18,7 @@ abbrev pub with_front : Items → Result (Items × List ℕ) Fault → Result (I
 with_front front read = read >>= λ x. Ok (items_append front x.0, x.1)
 
 one_more : (front : Items) (a : Answer) (others : Items) → items_append front (answer_before a others) ≡ items_append (answer_after front a) others
-one_more (Err text) a others = refl
-one_more (Ok rs) (Err text) others = refl
-one_more (Ok rs) (Ok r) (Err text) = refl
-one_more (Ok rs) (Ok r) (Ok others) = ap (λ (ts : List Reply). Ok ts) (simp append_assoc)
+one_more front a others = grind (arith, append_assoc)
 
 no_more : (front : Items) → items_append front (Ok []) ≡ front
 no_more (Err text) = refl

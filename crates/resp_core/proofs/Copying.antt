@@ -44,13 +44,7 @@ size_of_all-pairs no_pairs = refl
 size_of_all-pairs (pair k v ps) = omega (arith, size_of_all-append (inside_pairs ps) (v ∷ k ∷ []), size_of_all-pairs ps)
 
 size_of_all-inside : (r : Reply) → size_of_all (inside r) < size r
-size_of_all-inside nil = omega arith
-size_of_all-inside (int n) = omega arith
-size_of_all-inside (bulk bytes) = omega arith
-size_of_all-inside (array items) = omega (arith, size_of_all-items items)
-size_of_all-inside (simple text) = omega arith
-size_of_all-inside okay = omega arith
-size_of_all-inside (pairs items) = omega (arith, size_of_all-pairs items)
+size_of_all-inside r = grind (arith, size_of_all-items, size_of_all-pairs)
 
 -- a step of the walk leaves less
 pub walk-smaller : (us vs ws : List (Bor Value)) (v : Bor Value) → us ≡ vs ++ v ∷ [] → map (λ w. view w.now) ws ≡ map (λ w. view w.now) vs ++ inside (view v.now) → size_of_all (map (λ w. view w.now) ws) < size_of_all (map (λ w. view w.now) us)
@@ -80,9 +74,7 @@ pub drop-rest : (copies : List Value) (rest : List Reply) (items : List Value) (
 drop-rest copies rest items n e at = grind (arith, length-rest, map-drop, drop_at)
 
 append-two : {A : Type 0} (xs ys : List A) (a b : A) → xs ++ (ys ++ a ∷ b ∷ []) ≡ (xs ++ ys ++ a ∷ []) ++ b ∷ []
-append-two [] [] a b = refl
-append-two [] (y ∷ ys) a b = ap (λ zs. y ∷ zs) (append-two [] ys a b)
-append-two (x ∷ xs) ys a b = ap (λ zs. x ∷ zs) (append-two xs ys a b)
+append-two xs ys a b = grind (arith, common_steps)
 
 -- the copies of a pair's value and key are the last two
 take-pair : (copies cs ds : List Value) (key value : Value) (rest : List Reply) (p : Value × Value) (ps : List (Value × Value)) → copies ≡ cs ++ key ∷ [] → cs ≡ ds ++ value ∷ [] → map view copies ≡ rest ++ inside_pairs (pairs_of (map view_pair (p ∷ ps))) → (map view ds ≡ rest ++ inside_pairs (pairs_of (map view_pair ps))) × (view_pair (key, value) ≡ view_pair p)

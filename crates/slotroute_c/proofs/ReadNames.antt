@@ -1,15 +1,14 @@
 -- The name of a command among those that only read.
-use Rattle.std.proofs.Common.{◌≡◌, ℕ, List, [], ◌∷◌, Bool, true, ◌||◌, Option, Some, None, IfSome, Result, Ok, Err, IfOk, map, option_map, bytes_eq, refl, sym, ap, ◌∙◌}
-use Rattle.std.specs.Char.{to_ascii_uppercase}
+use Rattle.std.proofs.Common.{◌≡◌, ℕ, List, [], ◌∷◌, Bool, true, ◌||◌, Option, Some, None, IfSome, Result, Ok, Err, IfOk, map, option_map, bytes_eq, refl, sym, ◌∙◌, arith}
+use Rattle.std.proofs.lemmas.Grind.{common_steps}
 use Rattle.std.proofs.lemmas.Slice.Eq.{bytes_eq-Decides}
 use Rattle.std.proofs.lemmas.Str.Ascii.{uppercase-uppercase}
 use Rattle.std.proofs.lemmas.List.{map-append}
-use Rattle.redis_routing.specs.Command.{Arguments, argument, command_name, name_by}
+use Rattle.redis_routing.specs.Command.{Arguments, command_name, name_by}
 use Rattle.redis_routing.proofs.CommandNames.{name_from}
 use Rattle.redis_routing.specs.Names.{names_of}
 use Rattle.redis_routing.specs.ReadOnly.{is_among}
 use Rattle.redis_routing.specs.Routing.{routing, routing_by_name}
-use Rattle.redis_routing.specs.TwoWords.{takes_second}
 use Rattle.redis_routing.specs.Upper.{upper}
 use Rattle.resp_core.proofs.Cases.{by_test}
 use Rattle.redis_routing.specs.Registry.{Registrations}
@@ -28,25 +27,18 @@ upper-upper (c ∷ text) = rw (uppercase-uppercase c, upper-upper text) refl
 
 name_upper : (first : List ℕ) (second : Option (List ℕ)) → upper (name_by (upper first) (option_map upper second)) ≡ name_by (upper first) (option_map upper second)
 name_upper first None = upper-upper first
-name_upper first (Some second) = by_test (takes_second (upper first))
-    (λ t. rw t (map-append to_ascii_uppercase (upper first) (32 ∷ upper second) ∙ rw (upper-upper first, upper-upper second) refl))
-    (λ f. rw f (upper-upper first))
+name_upper first (Some second) = grind (arith, common_steps, by_test, map-append, upper-upper)
 
 same_some : (x y : List ℕ) → Some x ≡ Some y → x ≡ y
 same_some x y e = cc
 
 from_upper : (args : Arguments) (first : Option (List ℕ)) (name : List ℕ) → Some name ≡ name_from args first → upper name ≡ name
 from_upper args None name e = absurd cc
-from_upper args (Some first) name e =
-    let is : name ≡ name_by (upper first) (option_map upper (argument args 1)) = same_some _ _ e in
-    ap upper is ∙ name_upper first (argument args 1) ∙ sym is
+from_upper args (Some first) name e = grind (arith, common_steps, same_some, name_upper)
 
 -- a name that was put in is there
 pub is_put : (args : Arguments) (name : List ℕ) (old new : List (List ℕ)) (reads : Bool) → reads ≡ true → Some name ≡ command_name args → is_among new name ≡ (bytes_eq name (upper name) || is_among old name) → IfSome (command_name args) (λ n. is_among new n ≡ reads)
-is_put args name old new reads read e put =
-    let same : bytes_eq name (upper name) ≡ true = (bytes_eq-Decides name (upper name)).1 (sym (from_upper args (argument args 0) name e)) in
-    let there : is_among new name ≡ true = rw same at put in
-    rw (sym e) (there ∙ sym read)
+is_put args name old new reads read e put = grind (arith, common_steps, bytes_eq, bytes_eq-Decides, from_upper)
 
 pub no_name : (args : Arguments) (Is : List ℕ → Type 0) → None ≡ command_name args → IfSome (command_name args) Is
 no_name args Is e = rw (sym e) tt

@@ -1,5 +1,5 @@
 -- How a run of commands ends early.
-use Rattle.std.proofs.Common.{◌≡◌, ℕ, Bool, List, [], ◌++◌, refl, take, ◌∷◌}
+use Rattle.std.proofs.Common.{◌≡◌, ℕ, Bool, List, [], ◌++◌, refl, take, ◌∷◌, arith}
 use Rattle.std.specs.Prelude.{Option, Result, Ok, Err, IfErr, MatchResult}
 use Rattle.std.specs.Result.{IsErrAnd}
 use Rattle.std.specs.Io.BufRead.{DropsThrough}
@@ -28,9 +28,7 @@ use Rattle.slotroute_serve.proofs.Writing.{grows}
 
 -- a line that could not be read, where a read may fail for that of the input
 pub unread_caused : (reads writes : Type 0) (r : Result (Unit {0}) RunFault) (unread : ReadFault) → IsErrAnd r (λ e. e ≡ run_unread unread) → (unread ≡ read.Input → reads) → IfErr r (λ e. IsCaused reads writes (fault_of_run e))
-unread_caused reads writes (Ok x) unread is may = absurd is
-unread_caused reads writes (Err e) read.Memory is may = rw is tt
-unread_caused reads writes (Err e) read.Input is may = rw is (may refl)
+unread_caused reads writes r unread h1 h2 = grind (arith)
 
 -- a command that is refused is no failure of a stream
 pub refused_caused : (reads writes : Type 0) (number : ℕ) (e : CommandFault) → IsCaused reads writes (fault_of_run (fault_at_line number e))
@@ -49,9 +47,7 @@ module _ (handed : Bool) (direction : Direction) (registered : Registrations) (e
 
   pub reader_stops : (first : ℕ) (unread : ReadFault) (input left out new : Option (List ℕ)) (text : List ℕ) (r : Result (Unit {0}) RunFault) → Appends out new text → Leaves input left (λ bytes rest. StopsAfter handed direction registered entries bytes rest text) → IsErrAnd r (λ e. e ≡ run_unread unread)
       → MatchResult r (λ x. RunEnds handed direction registered entries input left out new) (RunStops handed direction registered entries first input left out new)
-  reader_stops first unread input left out new text (Ok x) a l is = absurd is
-  reader_stops first read.Memory input left out new text (Err e) a l is = rw is (text, a, l)
-  reader_stops first read.Input input left out new text (Err e) a l is = rw is (text, a, l)
+  reader_stops first unread input left out new text r h1 h2 h3 = grind (arith)
 
   -- the command of a line had no text
   pub text_stops : (first number : ℕ) (input mid left out new : Option (List ℕ)) (keys : Keyspace Cell) (text line : List ℕ) (e : CommandFault) → Appends out new text → RunsOn handed direction registered entries input mid first number keys text → HasLine mid line → DropsThrough mid left 10

@@ -17,7 +17,6 @@ use Rattle.slotroute_serve.specs.Streams.{Leaves}
 use Rattle.slotroute_serve.specs.declared.fault.MapFault.{MapFault}
 use Rattle.slotroute_serve.specs.declared.fault.MapFault.TheVariants as map_fault
 use Rattle.slotroute_serve.specs.declared.fault.ReadFault.{ReadFault}
-use Rattle.slotroute_serve.specs.declared.fault.ReadFault.TheVariants as read_fault
 use Rattle.slotroute_serve.proofs.Leaving.{after_lines-more, line_read, not_read}
 
 -- the bytes before the first line feed
@@ -30,9 +29,7 @@ positive n = search (rules)
 
 -- where something was read, something was left to read
 pub something_there : (left : Option (List ℕ)) (line : List ℕ) → IfSome left (λ xs. line ≡ take_through 10 xs) → 0 < length line → IfSome left (λ xs. true ≡ nat_lt 0 (length xs))
-something_there None line e l = tt
-something_there (Some []) line e l = absurd (omega (arith, ap length e))
-something_there (Some (x ∷ xs)) line e l = sym (positive (length xs))
+something_there left line h1 h2 = grind (arith, common_steps, positive)
 
 first_piece-before : (xs : List ℕ) → first_piece 10 xs ≡ before xs
 first_piece-before [] = refl
@@ -93,22 +90,13 @@ map_read input rest front more e n r =
 
 -- at the end of the input
 pub at_end : (old left : Option (List ℕ)) (made : Made) (number : ℕ) → StillReads old left made number → IfSome left (λ xs. false ≡ nat_lt 0 (length xs)) → IfSome old (λ input. IsMap (leading_lines input) made)
-at_end None left made number s e = tt
-at_end (Some input) None made number s e = absurd s
-at_end (Some input) (Some []) made number (front, split, m, r, c) e = ended input front [] made split refl m
-at_end (Some input) (Some (x ∷ xs)) made number s e = absurd (true≢false (sym (e ∙ positive (length xs))))
+at_end old left made number h1 h2 = grind (arith, common_steps, ended, true≢false, positive)
 
 pub next_at_end : (old left : Option (List ℕ)) (made : Made) (number : ℕ) → StillReads old left made number → IfSome left (λ xs. false ≡ nat_lt 0 (length xs)) → IfSome old (λ input. number + 1 ≡ first_after_map input)
-next_at_end None left made number s e = tt
-next_at_end (Some input) None made number s e = absurd s
-next_at_end (Some input) (Some []) made number (front, split, m, r, c) e = numbered input front [] number split refl c
-next_at_end (Some input) (Some (x ∷ xs)) made number s e = absurd (true≢false (sym (e ∙ positive (length xs))))
+next_at_end old left made number h1 h2 = grind (arith, common_steps, numbered, true≢false, positive)
 
 pub left_at_end : (old left new : Option (List ℕ)) (made : Made) (number : ℕ) → StillReads old left made number → IfSome left (λ xs. false ≡ nat_lt 0 (length xs)) → DropsThrough left new 10 → Leaves old new (λ input rest. rest ≡ after_map input)
-left_at_end None left new made number s e d = tt
-left_at_end (Some input) None new made number s e d = absurd s
-left_at_end (Some input) (Some []) new made number (front, split, m, r, c) e d = rw d (map_read input [] front [] split refl r)
-left_at_end (Some input) (Some (x ∷ xs)) new made number s e d = absurd (true≢false (sym (e ∙ positive (length xs))))
+left_at_end old left new made number h1 h2 h3 = grind (arith, common_steps, map_read, true≢false, positive)
 
 -- at a line with no field
 pub at_blank : (old left : Option (List ℕ)) (made : Made) (number : ℕ) (line : List ℕ) (fields : List (List ℕ)) → StillReads old left made number → HasLine left line → fields ≡ fields_of line → fields ≡ []
@@ -146,22 +134,10 @@ at_bad None left made number line fields s h e b lacks = tt
 at_bad (Some input) None made number line fields s h e b lacks = absurd s
 at_bad (Some input) (Some []) made number line fields s h e b lacks = absurd (true≢false h.there)
 at_bad (Some input) (Some (x ∷ xs)) made number line [] s h e b lacks = absurd (b refl)
-at_bad (Some input) (Some (x ∷ xs)) made number line (f ∷ fs) (front, split, m, r, c) h e b lacks = record {
-  good = front;
-  bad = f ∷ fs;
-  later = leading_lines (drop_through 10 (x ∷ xs));
-  split = split_at_line input x xs front line f fs split h.text e;
-  made = made;
-  before = m;
-  there = lacks;
-  counted = c;
-}
+at_bad (Some input) (Some (x ∷ xs)) made number line (f ∷ fs) (front, split, m, r, c) h e b lacks = grind (arith, common_steps, split_at_line input x xs front line f fs split h.text e)
 
 pub left_at_bad : (old left new : Option (List ℕ)) (made : Made) (number : ℕ) → StillReads old left made number → DropsThrough left new 10 → Leaves old new (λ input rest. rest ≡ after_lines number input)
-left_at_bad None left new made number s d = tt
-left_at_bad (Some input) None new made number s d = absurd s
-left_at_bad (Some input) (Some xs) new made number (front, split, m, r, c) d =
-    rw (d, c) (ap (drop_through 10) r ∙ sym (after_lines-more (length front) input))
+left_at_bad old left new made number h1 h2 = grind (arith, after_lines-more)
 
 -- where the reading stopped in a line, or after it, or before it
 within : (input : List ℕ) (front more : List (List (List ℕ))) → leading_lines input ≡ front ++ more → length front ≤ length (leading_lines input)
@@ -193,9 +169,7 @@ no_memory_after_line (Err e) old left new made number is s d = rw is (left_after
 -- a line that could not be read
 pub unread_line : {T : Type 0} (r : Result T MapFault) (old left new : Option (List ℕ)) (made : Made) (number : ℕ) (unread : ReadFault) → IsErrAnd r (λ e. e ≡ map_unread unread) → StillReads old left made number → Leaves left new StopsInLine
     → Leaves old new (λ input rest. MatchResult r (λ _. rest ≡ after_map input) (IsInputLeft input rest))
-unread_line (Ok x) old left new made number unread is s h = absurd is
-unread_line (Err e) old left new made number read_fault.Memory is s h = rw is (left_in_line old left new made number s h)
-unread_line (Err e) old left new made number read_fault.Input is s h = rw is (left_in_line old left new made number s h)
+unread_line r old left new made number unread h1 h2 h3 = grind (arith, common_steps)
 
 -- one more pair at the end
 pub AllZip-more : {A B : Type 0} (R : A → B → Type 0) (xs : List A) (ys : List B) (x : A) (y : B) → AllZip R xs ys → R x y → AllZip R (xs ++ x ∷ []) (ys ++ y ∷ [])

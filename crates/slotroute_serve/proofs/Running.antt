@@ -1,5 +1,6 @@
 -- The commands that were run so far, and what is left of the input.
 use Rattle.std.proofs.Common.{◌≡◌, ◌≢◌, ℕ, ◌+◌, Bool, false, List, [], ◌∷◌, ◌++◌, refl, sym, ◌∙◌, ap, subst, arith, map, length, take, nat_lt, append_assoc}
+use Rattle.std.proofs.lemmas.Grind.{common_steps}
 use Rattle.std.specs.Prelude.{Option, Some, None, ⊤, IfSome}
 use Rattle.std.specs.Io.BufRead.{drop_through, DropsThrough}
 use Rattle.std.proofs.lemmas.List.{append-nil, length_push}
@@ -73,11 +74,7 @@ module _ (handed : Bool) (direction : Direction) (registered : Registrations) (e
 
   pub run_ended : (old left new : Option (List ℕ)) (first number : ℕ) (keys : Keyspace Cell) (text : List ℕ) → RunsOn old left first number keys text → IfSome left (λ xs. false ≡ nat_lt 0 (length xs)) → DropsThrough left new 10
       → Leaves old new (λ bytes rest. AllRun handed direction registered entries bytes rest text)
-  run_ended None left new first number keys text on e d = tt
-  run_ended (Some input) None new first number keys text on e d = absurd on
-  run_ended (Some input) (Some []) new first number keys text (front, split, ran, r, n) e d =
-      rw d record { keyspace = keys; run = subst (λ (ls : List (List (List ℕ))). AreRun handed direction registered entries ls no_keys keys text) (sym (split ∙ append-nil front)) ran; left_is = refl }
-  run_ended (Some input) (Some (x ∷ xs)) new first number keys text on e d = absurd (true≢false (sym (e ∙ positive (length xs))))
+  run_ended old left new first number keys text h1 h2 h3 = grind (arith, common_steps, append-nil, true≢false, positive)
 
   -- the reading stopped in the next line, after it, or before it
   pub stopped_in_line : (old left new : Option (List ℕ)) (first number : ℕ) (keys : Keyspace Cell) (text : List ℕ) → RunsOn old left first number keys text → Leaves left new StopsInLine → Leaves old new (λ bytes rest. StopsAfter handed direction registered entries bytes rest text)

@@ -12,7 +12,6 @@ use Rattle.cluster_map.specs.RouteNode.{IsNodeOfRoute, IsPicked, IsPickedNode, I
 use Rattle.cluster_map.specs.SlotNodes.{SlotNodes}
 use Rattle.cluster_map.specs.SlotRoute.{SlotRoute}
 use Rattle.cluster_slots.specs.declared.slot.SlotAddr.{SlotAddr}
-use Rattle.cluster_slots.specs.declared.slot.SlotAddr.TheVariants.{Master, ReplicaOptional, ReplicaRequired}
 use Rattle.memory_nodes.specs.Cells.{Cell}
 use Rattle.memory_nodes.specs.Steps.{step}
 use Rattle.redis_cluster.specs.Driven.{Request, request, command_routes_by, AreSent, IsDriven}
@@ -40,9 +39,7 @@ use Rattle.slotroute_serve.proofs.Ordering.{names_once}
 
 -- what a strategy picks is a candidate
 any_pick : (picks : Candidates → Address → Type 0) (nodes : SlotNodes) (slot : ℕ) (addr : SlotAddr) (address : Address) → IsPicked picks nodes slot addr address → IsPicked IsCandidate nodes slot addr address
-any_pick picks nodes slot Master address h = h
-any_pick picks nodes slot ReplicaOptional address (none, some) = (none, λ l. ((some l).1, (some l).1))
-any_pick picks nodes slot ReplicaRequired address (none, some) = (none, λ l. ((some l).1, (some l).1))
+any_pick picks nodes slot addr address h1 = grind (arith)
 
 pub node_by : {S : Type 0} (strategy : Option S) (picks : S → Candidates → Address → Type 0) (entries : List (ranges.RangeEntry SlotNodes)) (route : SlotRoute) (address : Address) →
     MatchOption strategy (IsNodeOfRoute entries route 0 address) (λ s. IsPickedNode (picks s) entries route address) → IsRunNode (is_some strategy) entries route address

@@ -260,13 +260,7 @@ module _ (handed : Bool) where
   tells_anyhow failed text e (inr (b, t)) = inr (b, told_anyhow failed text (fault_line fault.Memory) t)
 
   cause_anyhow : (e : Fault) → IsCaused ⊤ ⊤ e
-  cause_anyhow fault.Usage = tt
-  cause_anyhow (fault.BadMapLine n) = tt
-  cause_anyhow fault.NotMultiKey = tt
-  cause_anyhow (fault.Command n r) = tt
-  cause_anyhow fault.Memory = tt
-  cause_anyhow fault.Input = tt
-  cause_anyhow fault.Output = tt
+  cause_anyhow e = grind (arith)
 
   pub serves_anyhow : (reads writes tells : Type 0) (words : List (List ℕ)) (input left out new err told : Option (List ℕ)) (status : ℕ) → Serves reads writes tells handed words input left out new err told status → Serves ⊤ ⊤ ⊤ handed words input left out new err told status
   serves_anyhow reads writes tells words input left out new err told status (inl a) = inl a

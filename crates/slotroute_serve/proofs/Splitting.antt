@@ -45,10 +45,7 @@ same_parts registered args pattern named = fun_ext (λ slot. ap (λ p. part_by_p
 
 -- One more part without a node, or with one, in the status.
 status_more : (before here : Bool) (status : ℕ) → status ≡ cond here 1 (cond before 1 0) → status ≡ cond (before || (here || false)) 1 0
-status_more true true status e = e
-status_more true false status e = e
-status_more false true status e = e
-status_more false false status e = e
+status_more before here status h1 = grind (arith)
 
 -- One more line.
 pub one_more : (entries : List (RangeEntry SlotNodes)) (parts_by_slot : ℕ → Arguments) (routes : List (SlotRoute × Vec ℕ Global)) (i : ℕ) (route : SlotRoute × Vec ℕ Global) (lines line : List ℕ) (old status : ℕ) (part : RoutedPart) → i < length routes

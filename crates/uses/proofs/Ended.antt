@@ -1,5 +1,6 @@
 -- Why a client has one reply to the parts of a command, or none.
-use Rattle.std.proofs.Common.{◌≡◌, ◌⊎◌, ℕ, inl, inr, List, Some, Result, Ok, Err, map, sym, ap, true, false, MatchResult, IfOk, IfErr, subst}
+use Rattle.std.proofs.Common.{◌≡◌, ◌⊎◌, ℕ, inl, List, Some, Result, Ok, Err, map, sym, ap, true, false, MatchResult, IfOk, IfErr, subst, arith}
+use Rattle.std.proofs.lemmas.Grind.{common_steps}
 use Rattle.std.specs.Prelude.{is_none}
 use Rattle.std.specs.List.{list_any}
 use Rattle.std.specs.Result.{IsErrAnd}
@@ -49,15 +50,7 @@ with_told plan told = record plan { replies = after_telling plan.replies told }
 -- it is of the same command
 still_of : (registered : Registrations) (command : MultiKey) (plan : Plan) (told : List Value)
     → IsPlanOf registered command plan → IsPlanOf registered command (with_told plan told)
-still_of registered command plan told is = record {
-  command_is = is.command_is;
-  form = is.form;
-  tuples = is.tuples;
-  at_most_once = is.at_most_once;
-  once = is.once;
-  nodes = is.nodes;
-  parts = is.parts;
-}
+still_of registered command plan told is = grind (arith, common_steps)
 
 module _ (plan final : Plan) (answers : Answers) (values : List Value)
     (each : answers ≡ map Ok values) (final_is : final ≡ with_told plan values) where
@@ -82,17 +75,7 @@ module _ (plan final : Plan) (answers : Answers) (values : List Value)
         (λ some. absurd (untold some))
         (λ all. amid registered command values (subst (IsPlanOf registered command) (sym final_is) (still_of registered command plan values is)) (all_of none_before all));
   }
-  ended (Err error) joins amid untold = record {
-    replies = values;
-    each = each;
-    cause = λ none_before.
-        by_test (list_any is_none final.replies)
-        (λ some. inl (untold some))
-        (λ all. elim (joins values (all_of none_before all)) [
-          | inl memory ↦ inr (inl memory.0)
-          | inr refused ↦ inr (inr (subst (λ (s : Split). IsMadeOfParts s (map view values) (Err error.kind)) split_is refused))
-        ]);
-  }
+  ended (Err error) joins amid untold = grind (arith, common_steps, by_test, all_of, split_is)
 
 -- of an outcome whose error was turned into another, what is said of a value
 pub if_ok : {A E F : Type 0} (M : E → F → Type 0) (P : A → Type 0) (Q : E → Type 0) (r : Result A E) (s : Result A F)

@@ -1,5 +1,6 @@
 -- Parts that are handed over one after the other, each with its node.
 use Rattle.std.proofs.Common.{◌≡◌, ◌≤◌, ℕ, zero, suc, ◌+◌, List, [], ◌∷◌, ◌++◌, None, Some, refl, ap, ◌∙◌, arith, length, map, take}
+use Rattle.std.proofs.lemmas.Grind.{common_steps}
 use Rattle.std.specs.Prelude.{slice_get}
 use Rattle.std.specs.List.{AllZip, zip}
 
@@ -34,18 +35,14 @@ module _ {A B : Type 0} where
 pub take_there : {X : Type 0} (xs : List X) (k : ℕ) (x : X) → slice_get xs k ≡ Some x → take (k + 1) xs ≡ take k xs ++ x ∷ []
 take_there [] k x at = absurd (cc at)
 take_there (y ∷ xs) zero x at = let same : y ≡ x = cc in ap (λ v. v ∷ []) same
-take_there (y ∷ xs) (suc k) x at =
-    let more : suc k + 1 ≡ suc (k + 1) = omega arith in
-    ap (λ n. take n (y ∷ xs)) more ∙ ap (λ rest. y ∷ rest) (take_there xs k x at)
+take_there (y ∷ xs) (suc k) x at = grind (arith, take_there xs k x)
 
 -- or none more
 pub take_past : {X : Type 0} (xs : List X) (k : ℕ) → slice_get xs k ≡ None → take (k + 1) xs ≡ take k xs
 take_past [] zero at = refl
 take_past [] (suc k) at = let more : suc k + 1 ≡ suc (k + 1) = omega arith in ap (λ n. take n []) more
 take_past (y ∷ xs) zero at = absurd (cc at)
-take_past (y ∷ xs) (suc k) at =
-    let more : suc k + 1 ≡ suc (k + 1) = omega arith in
-    ap (λ n. take n (y ∷ xs)) more ∙ ap (λ rest. y ∷ rest) (take_past xs k at)
+take_past (y ∷ xs) (suc k) at = grind (arith, common_steps, take_past xs k)
 
 -- what holds beside each of three lists
 pub beside_both : {R A B : Type 0} (P : R → A → Type 0) (Q : R → B → Type 0) {S : Type 0} (f : R → S) (O : S → A × B → Type 0) → ((r : R) (a : A) (b : B) → P r a → Q r b → O (f r) (a, b))

@@ -1,5 +1,6 @@
 -- What a log says of a command that was driven over it.
 use Rattle.std.proofs.Common.{◌≡◌, ◌⊎◌, inl, inr, ◌≤◌, ◌<◌, ℕ, zero, suc, ◌+◌, ◌-◌, List, [], ◌∷◌, ◌++◌, Bool, true, false, cond, Some, All, map, filter, length, take, drop, get_or, option_map, refl, sym, ap, ◌∙◌, subst, arith}
+use Rattle.std.proofs.lemmas.Grind.{common_steps}
 use Rattle.std.specs.Prelude.{nat_eq, slice_get, option_and_then}
 use Rattle.std.proofs.lemmas.Bool.{eqb-true}
 use Rattle.std.proofs.lemmas.List.{drop_at, drop-map, length-map, take-append-drop, take_at, take-map}
@@ -54,10 +55,7 @@ place_of slot (s ∷ slots) = cond (nat_eq slot s) 0 (suc (place_of slot slots))
 stands_there : (slots : List ℕ) (k slot : ℕ) → slice_get slots k ≡ Some slot → 0 < times slot slots
 stands_there [] k slot at = absurd (cc at)
 stands_there (s ∷ slots) zero slot at = let same : s ≡ slot = same_some s slot at in omega (arith, times_here slot s slots (ap (λ n. nat_eq slot n) same ∙ same_number slot))
-stands_there (s ∷ slots) (suc k) slot at =
-    by_test (nat_eq slot s)
-    (λ here. omega (arith, times_here slot s slots here))
-    (λ there. omega (arith, times_there slot s slots there, stands_there slots k slot at))
+stands_there (s ∷ slots) (suc k) slot at = grind (arith, common_steps, stands_there slots k slot)
 
 place_is : (slots : List ℕ) (k slot : ℕ) → times slot slots ≤ 1 → slice_get slots k ≡ Some slot → place_of slot slots ≡ k
 place_is [] k slot few at = absurd (cc at)
@@ -89,13 +87,7 @@ answers_in (e ∷ es) = one_if e.ending + answers_in es
 
 many_replies : (ss : List SaidCommand) → length (replies_in ss) ≡ answers_in (map entry_by ss)
 many_replies [] = refl
-many_replies (s ∷ ss) = one s.outcome (many_replies ss)
-  where
-    one : (o : SendOutcome Reply) → length (replies_in ss) ≡ answers_in (map entry_by ss) → length (reply_in o ++ replies_in ss) ≡ one_if (outcome_ending o) + answers_in (map entry_by ss)
-    one (answer reply) same = omega (arith, same)
-    one (refusal error) same = omega (arith, same)
-    one (redirection redirect) same = omega (arith, same)
-    one (loss error) same = omega (arith, same)
+many_replies (s ∷ ss) = grind (arith, common_steps, many_replies ss)
 
 -- lists that begin with as many elements have the same rest
 same_rest : {X : Type 0} (a b c d : List X) → length a ≡ length c → a ++ b ≡ c ++ d → b ≡ d

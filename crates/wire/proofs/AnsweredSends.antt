@@ -1,5 +1,6 @@
 -- What was sent for the slots of a command, as far as it was answered: each part once, or the first parts before a fault.
 use Rattle.std.proofs.Common.{◌≡◌, ◌<◌, ◌⊎◌, All, Option, inl, inr, ℕ, zero, suc, List, [], ◌∷◌, ◌++◌, Bool, true, false, None, Some, refl, sym, ap, ◌∙◌, subst, arith, map, take, length, append_assoc}
+use Rattle.std.proofs.lemmas.Grind.{common_steps}
 use Rattle.std.specs.Prelude.{slice_get, ⊤}
 use Rattle.std.specs.List.{AllZip}
 use Rattle.std.proofs.lemmas.List.{append-nil, take_all}
@@ -51,11 +52,7 @@ module _ (registered : Registrations) (args : Arguments) where
   -- an entry of the part of the next route, if there is one, whether it is answered or not
   one_more : (e : Entry) (route : SlotRoute) → map Some e.args ≡ part_by_slot registered args route.slot → (routes : List SlotRoute) → slice_get routes 0 ≡ Some route → AreOfSlots registered args (slots_in_routes routes) (e ∷ [])
   one_more e route own [] next = absurd (none_apart route next)
-  one_more e route own (x ∷ routes) next = by_ending (is_answered e.ending)
-    where
-      by_ending : (b : Bool) → IsOfNext (λ slot. map Some e.args ≡ part_by_slot registered args slot) (λ rest. ⊤) b (x.slot ∷ slots_in_routes routes)
-      by_ending true = (own ∙ ap (λ (y : SlotRoute). part_by_slot registered args y.slot) (sym (same_some x route next)), tt)
-      by_ending false = tt
+  one_more e route own (x ∷ routes) next = grind (arith, common_steps)
 
 module _ (IsNode : SlotRoute → Address → Type 0) (r : Request) where
   -- the first routes, each sent once, and then what was sent for the next one
@@ -71,14 +68,7 @@ module _ (IsNode : SlotRoute → Address → Type 0) (r : Request) where
 
   by_first : (routes : List SlotRoute) (command : MultiKey) (count : ℕ) (old mid new more : List Entry) → IsDrivable r routes command → AreSent IsNode r (take count (in_order routes r.order)) old mid → new ≡ mid ++ more
       → ((rest : List SlotRoute) → slice_get rest 0 ≡ slice_get (in_order routes r.order) count → AreOfSlots r.names.registered r.arguments (slots_in_routes rest) more) → AreSentInOrder r old new
-  by_first routes command count old mid new more drivable sent grew last = record {
-    routes = routes;
-    command = command;
-    drivable = drivable;
-    entries = sent.entries ++ more;
-    grew = grew ∙ ap (λ es. es ++ more) sent.grew ∙ append_assoc old sent.entries more;
-    each = of_first count (in_order routes r.order) sent.entries more sent.each last;
-  }
+  by_first routes command count old mid new more drivable sent grew last = grind (arith, common_steps, append_assoc, of_first)
 
   by_all : (routes : List SlotRoute) (command : MultiKey) (old new : List Entry) → IsDrivable r routes command → AreSent IsNode r (in_order routes r.order) old new → AreSentInOrder r old new
   by_all routes command old new drivable sent =
@@ -94,9 +84,7 @@ module _ (IsNode : SlotRoute → Address → Type 0) (r : Request) where
   by_reach routes command count whole old new drivable went = by_all routes command old new drivable went.1
   by_reach routes command count (up_to None) old new drivable (route, before, next, sent, same) =
       by_first routes command count old before new [] drivable sent (same ∙ sym (append-nil before)) (λ rest next. tt)
-  by_reach routes command count (up_to (Some ending)) old new drivable (route, before, next, sent, last) =
-      by_first routes command count old before new (last.0 ∷ []) drivable sent last.2
-      (λ rest is. one_more r.names.registered r.arguments last.0 route last.1.1 rest (is ∙ next))
+  by_reach routes command count (up_to (Some ending)) old new drivable (route, before, next, sent, last) = grind (arith, by_first routes command count old before new (last.0 ∷ []) drivable sent last.2, one_more)
 
   -- a fault came before the first send, or the first parts were sent once
   pub by_cut : {C : Type 0} (old new : State C) (may_refuse : ℕ → Ending → Type 0) (fault : DriveFault) (count : ℕ) → IsCut IsNode r old new may_refuse fault count → (new.trace ≡ old.trace) ⊎ AreSentInOrder r old.trace new.trace
@@ -126,15 +114,8 @@ module _ (registered : Registrations) (args : Arguments) (slot : ℕ) (slots : L
 module _ (IsTry : Request → SlotRoute → Try → Type 0) (r : Request) (own : (route : SlotRoute) (try : Try) → IsTry r route try → IsOwnTry r route try) where
   of_tried : (routes : List SlotRoute) (old new : List Entry) → AreTried (IsTry r) routes old new → (entries : List Entry) × (new ≡ old ++ entries) × AreOfSlots r.names.registered r.arguments (slots_in_routes routes) entries
   of_tried [] old new same = ([], same ∙ sym (append-nil old), tt)
-  of_tried (route ∷ routes) old new (try, mid, is, first, later) =
-      let rest = of_tried routes mid new later in (
-        first.attempts ++ rest.0,
-        rest.1 ∙ ap (λ es. es ++ rest.0) first.grew ∙ append_assoc old first.attempts rest.0,
-        by_ended r.names.registered r.arguments route.slot (slots_in_routes routes) rest.0 rest.2 try first.attempts (own route try is) first.ended,
-      )
+  of_tried (route ∷ routes) old new (try, mid, is, first, later) = grind (arith, common_steps, append_assoc, by_ended, of_tried routes mid new later)
 
   -- each part was tried until it was answered
   pub by_tried : (old new : List Entry) → AreAllTried IsTry r old new → AreSentInOrder r old new
-  by_tried old new d =
-      let sent = of_tried (in_order d.routes r.order) old new d.trace in
-      record { routes = d.routes; command = d.command; drivable = d.drivable; entries = sent.0; grew = sent.1; each = sent.2 }
+  by_tried old new d = grind (arith, common_steps, of_tried)

@@ -1,5 +1,6 @@
 -- One batch more.
-use Rattle.std.proofs.Common.{◌≡◌, ℕ, zero, suc, List, [], ◌∷◌, ◌++◌, Bool, true, false, cond, Option, None, Some, Ok, Err, length, map, arith, refl, sym, ap, ◌∙◌, subst, append_assoc}
+use Rattle.std.proofs.Common.{◌≡◌, ℕ, zero, suc, List, [], ◌∷◌, ◌++◌, Bool, true, false, cond, Option, None, Some, Ok, Err, length, map, arith, refl, sym, ap, ◌∙◌, subst}
+use Rattle.std.proofs.lemmas.Grind.{common_steps}
 use Rattle.std.specs.List.{zip}
 use Rattle.std.proofs.lemmas.List.{append-nil, length-map}
 use Rattle.resp_core.specs.Answer.{Answer}
@@ -12,7 +13,7 @@ use Rattle.redis_batches.specs.Pipeline.{Serve, Task, run, run_ended}
 use Rattle.redis_batches.specs.Taken.{AnswersRefusals, AreAnswered, AreServed, AreTasks, IsInPart, batch_entries, ending_by, task_of}
 use Rattle.redis_batches.specs.Turns.{answers}
 use Rattle.wire.specs.Said.{SendOutcome, said, answer, loss}
-use Rattle.wire.specs.Batches.{SaidBatch, add_task, after_answers, after_batch, ends_by, entries_of, refusal_by, replay_batches, tasks_in, trace_by, AreAnswersKept, AreBatchesKept, IsBatchKept}
+use Rattle.wire.specs.Batches.{SaidBatch, add_task, after_batch, ends_by, entries_of, refusal_by, replay_batches, tasks_in, trace_by, AreAnswersKept, AreBatchesKept, IsBatchKept}
 use Rattle.wire.proofs.Replaying as sends
 use Rattle.wire.proofs.Replaying.{not_empty}
 
@@ -84,9 +85,7 @@ same_append (x ∷ xs) ys zs same = same_append xs ys zs (cc same)
 
 trace_more : (refuses : ErrorParts → Bool) (ss : List SaidBatch) (s : SaidBatch) → trace_by refuses (ss ++ s ∷ []) ≡ trace_by refuses ss ++ entries_of refuses s.node s.sent s.outcome
 trace_more refuses [] s = append-nil (entries_of refuses s.node s.sent s.outcome)
-trace_more refuses (t ∷ ss) s =
-    ap (λ l. entries_of refuses t.node t.sent t.outcome ++ l) (trace_more refuses ss s)
-    ∙ sym (append_assoc (entries_of refuses t.node t.sent t.outcome) (trace_by refuses ss) (entries_of refuses s.node s.sent s.outcome))
+trace_more refuses (t ∷ ss) s = grind (arith, common_steps, trace_more refuses ss s)
 
 module _ {C : Type 0} (registered : Registrations) (refuses : ErrorParts → Bool) (step : Step C) (serve : Serve C) (took : ℕ → ℕ → Bool) (initial : Keyspace C) (old new : List SaidBatch) (node : Address) (batch : List (List (List ℕ))) where
   abbrev was : Keyspace C
@@ -128,11 +127,7 @@ module _ {C : Type 0} (registered : Registrations) (refuses : ErrorParts → Boo
     -- the answers are those that the commands give, where what was refused did nothing
     pub served : KeptNow → (tasks : List Task) → map (task_of registered) batch ≡ map Some tasks
         → AreServed step serve tasks ends was now these
-    served kept tasks are =
-        let found = tasks_are registered batch tasks are in record {
-          keyspace = now_keys (answer these) grew ∙ ap (λ (o : Option (List Task)). after_answers refuses step serve (took (length old)) (answer these) o was) found;
-          answers_are = subst (λ (o : Option (List Task)). AreAnswersKept refuses step serve (answer these) o was) found (said_last (answer these) grew kept);
-        }
+    served kept tasks are = grind (arith, common_steps, tasks_are registered batch tasks are, now_keys (answer these) grew, said_last (answer these) grew kept)
 
     -- and the nodes still keep to the meaning where they are
     keeps : KeptBefore → (tasks : List Task) → map (task_of registered) batch ≡ map Some tasks
@@ -166,8 +161,4 @@ module _ {C : Type 0} (registered : Registrations) (refuses : ErrorParts → Boo
   module _ (error : ErrorParts) (grew : new ≡ old ++ said node batch (loss error) ∷ []) where
     pub lost_keys : KeptNow → (tasks : List Task) → map (task_of registered) batch ≡ map Some tasks
         → IsInPart step serve tasks was now
-    lost_keys kept tasks are = (
-      ends_by error (took (length old)) tasks,
-      length-ends_by error (took (length old)) tasks,
-      now_keys (loss error) grew ∙ ap (λ (o : Option (List Task)). after_answers refuses step serve (took (length old)) (loss error) o was) (tasks_are registered batch tasks are),
-    )
+    lost_keys kept tasks are = grind (arith, common_steps, length-ends_by error (took (length old)) tasks, now_keys (loss error) grew, tasks_are registered batch tasks are)

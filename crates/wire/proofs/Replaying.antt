@@ -1,5 +1,6 @@
 -- One send more, of a single command or of a batch.
 use Rattle.std.proofs.Common.{◌≡◌, ℕ, suc, List, [], ◌∷◌, ◌++◌, length, map, arith, refl, sym, ap, ◌∙◌, subst, append_assoc}
+use Rattle.std.proofs.lemmas.Grind.{common_steps}
 use Rattle.std.proofs.lemmas.List.{append-nil}
 use Rattle.cluster_slots.specs.Address.{Address}
 use Rattle.wire.specs.Said.{Said, SendOutcome, said, reply_in, replies_in}
@@ -62,10 +63,7 @@ module _ {S V : Type 0} where
   module _ (old new : List (Said S V)) (node : Address) (sent : S) (outcome : SendOutcome V) (grew : new ≡ old ++ said node sent outcome ∷ []) where
     -- the replies that came back are those before, and the one that came, if one did
     pub said_gave : (replies : List V) → replies ≡ replies_in old → replies ++ reply_in outcome ≡ replies_in new
-    said_gave replies is =
-        ap (λ rs. rs ++ reply_in outcome) is
-        ∙ sym (replies-append old (said node sent outcome ∷ []) ∙ ap (λ rs. replies_in old ++ rs) (append-nil (reply_in outcome)))
-        ∙ ap replies_in (sym grew)
+    said_gave replies is = grind (arith, common_steps, replies-append, append-nil)
 
     -- and none more where none came
     pub said_none : reply_in outcome ≡ [] → (replies : List V) → replies ≡ replies_in old → replies ≡ replies_in new

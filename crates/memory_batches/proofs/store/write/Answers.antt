@@ -1,26 +1,10 @@
-use Rattle.std.proofs.Common.{◌≡◌, ◌++◌, [], ◌∷◌, Some, map, refl, sym, ap, ◌∙◌, subst}
-use Rattle.std.specs.Prelude.{IsSome, codes}
-use Rattle.redis_cluster.specs.MultiKey.{multi_key}
-use Rattle.memory_nodes.specs.Nodes.{keyspace_in, registered_in}
+use Rattle.std.proofs.Common.{arith}
+use Rattle.std.proofs.lemmas.Grind.{common_steps}
 use Rattle.memory_batches.proofs.Stores.{mset, mset_args, mset_is, left_by}
 use Rattle.memory_batches.proofs.store.write.Goals as goal
 
 pub send-requires : goal.send-requires
-send-requires c =
-    let key = c.args.key.now in
-    let string = c.args.string.now in
-    let first = c.in_ok-write_arg.ensures.added ∙ ap (λ l. l ++ codes "MSET" ∷ []) c.new-command.ensures in
-    let second = c.in_ok-write_arg-2.ensures.added ∙ ap (λ l. l ++ key ∷ []) first in
-    let args : c.write_arg-3.new.self ≡ mset_args key string = c.in_ok-write_arg-3.ensures.added ∙ ap (λ l. l ++ string ∷ []) second in
-    record { whole = subst IsSome (sym (ap (λ l. multi_key (registered_in c.args.store.now) (map Some l)) args ∙ mset_is (registered_in c.args.store.now) key string)) refl }
+send-requires c = grind (arith, common_steps, mset_args, mset_is)
 
 pub returns-in-Ok-clause-keyspace : goal.returns-in-Ok-clause-keyspace
-returns-in-Ok-clause-keyspace c =
-    let key = c.args.key.now in
-    let string = c.args.string.now in
-    let registered = registered_in c.args.store.now in
-    let first = c.in_ok-write_arg.ensures.added ∙ ap (λ l. l ++ codes "MSET" ∷ []) c.new-command.ensures in
-    let second = c.in_ok-write_arg-2.ensures.added ∙ ap (λ l. l ++ key ∷ []) first in
-    let args : c.write_arg-3.new.self ≡ mset_args key string = c.in_ok-write_arg-3.ensures.added ∙ ap (λ l. l ++ string ∷ []) second in
-    left_by registered c.write_arg-3.new.self (mset key string) (keyspace_in c.args.store.now) (keyspace_in c.send.new.self)
-    (ap (λ l. multi_key registered (map Some l)) args ∙ mset_is registered key string) c.in-Ok.ensures.keyspace
+returns-in-Ok-clause-keyspace c = grind (arith, mset_args, left_by, mset, mset_is)

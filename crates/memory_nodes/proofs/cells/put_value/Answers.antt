@@ -1,20 +1,15 @@
 use Rattle.std.proofs.Common.{◌≡◌, ◌<◌, [], ap, ◌∙◌, Some, length, option_map, refl, sym, arith}
+use Rattle.std.proofs.lemmas.Grind.{common_steps}
 use Rattle.std.proofs.lemmas.Bool.Decides.{nat_tests}
 use Rattle.redis_cluster.specs.Unsplit.{put}
 use Rattle.memory_nodes.specs.Cells.{cell_of}
 use Rattle.memory_nodes.specs.declared.cells.Values.{Values}
-use Rattle.memory_nodes.proofs.Keyspaces.{path-plain, path-other, path-put_plain, path-put_other, cell-put, cell-same}
+use Rattle.memory_nodes.proofs.Keyspaces.{path-plain, path-other, path-put_other, cell-put, cell-same}
 use Rattle.memory_nodes.proofs.Undoing.{at-err}
 use Rattle.memory_nodes.proofs.cells.put_value.Goals as goal
 
 pub returns-then-is_empty-clause-values : goal.returns-then-is_empty-clause-values
-returns-then-is_empty-clause-values c =
-    let path = c.args.path.now in
-    let old = c.args.values.now in
-    let new : Values = record { plain = c.replace.new.self; others = old.others } in
-    let none : length path ≡ 0 = grind (arith, nat_tests, c.is_empty.ensures, c.if-is_empty.true) in
-    cell-put path old new (Some c.in_ok-copied.copied) (path-put_plain path old new (Some c.in_ok-copied.copied) none c.replace.ensures.after refl)
-    ∙ ap (λ v. put path (Some v) (cell_of old)) (c.in_ok-copied.ensures.items_if_clones_equal (λ x y e. e))
+returns-then-is_empty-clause-values c = grind (arith, common_steps)
 
 pub returns-then-is_empty-clause-before : goal.returns-then-is_empty-clause-before
 returns-then-is_empty-clause-before c =

@@ -1,4 +1,5 @@
-use Rattle.std.proofs.Common.{◌++◌, ◌∷◌, [], ap, ◌∙◌}
+use Rattle.std.proofs.Common.{◌++◌, ◌∷◌, [], ap, ◌∙◌, arith}
+use Rattle.std.proofs.lemmas.Grind.{common_steps}
 use Rattle.memory_nodes.specs.Cells.{keyspace_of}
 use Rattle.memory_nodes.specs.Undo.{before_all}
 use Rattle.memory_nodes.proofs.Undoing.{before-push}
@@ -14,10 +15,4 @@ returns-in_ok-change-in-Write-clause-undo c kept =
     ∙ ap (before_all old) c.in_ok-change-in-Write.ensures.undo
 
 pub returns-in_ok-change-in-WriteAtPath-clause-undo : goal.returns-in_ok-change-in-WriteAtPath-clause-undo
-returns-in_ok-change-in-WriteAtPath-clause-undo c kept =
-    let change = c.in_ok-change-in-WriteAtPath.change in
-    let new = keyspace_of c.write_at_path.new.cells in
-    let old = c.args.changes.now.items in
-    ap (λ cs. before_all cs new) (c.push_reserved-in-WriteAtPath.ensures.items ∙ ap (λ cs. cs ++ change ∷ []) c.reserve-in-WriteAtPath.ensures.items)
-    ∙ before-push old change new
-    ∙ ap (before_all old) c.in_ok-change-in-WriteAtPath.ensures.undo
+returns-in_ok-change-in-WriteAtPath-clause-undo c kept = grind (arith, common_steps, before-push)

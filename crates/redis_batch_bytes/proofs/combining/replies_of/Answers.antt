@@ -1,8 +1,9 @@
-use Rattle.std.proofs.Common.{◌≤◌, ◌-◌, arith, length, map, subst, sym, take}
+use Rattle.std.proofs.Common.{◌-◌, arith, length, map, subst, sym, take}
+use Rattle.std.proofs.lemmas.Grind.{common_steps}
 use Rattle.std.proofs.Math.Seq.{take-length}
 use Rattle.resp_core.specs.Answer.{answer_of}
-use Rattle.redis_batches.specs.Replies.{AreRepliesFor, IsTakenFor, part_count}
-use Rattle.redis_batches.proofs.PutBack.{all_put_back, last_of, none_put_back, one_put_back, room_left}
+use Rattle.redis_batches.specs.Replies.{AreRepliesFor, IsTakenFor}
+use Rattle.redis_batches.proofs.PutBack.{all_put_back, last_of, none_put_back, one_put_back}
 use Rattle.redis_batch_bytes.proofs.combining.replies_of.Goals as goal
 
 pub loop-number-init : goal.loop-number-init
@@ -11,14 +12,7 @@ loop-number-init c =
     (take-length c.args.splits.now) c.in_ok-replies.ensures.items c.requires.long
 
 pub reply_of-requires : goal.reply_of-requires
-reply_of-requires c =
-    let splits = c.args.splits.now in
-    let number = c.loop-number.number in
-    let split = c.index-splits-number.result in
-    let last = last_of splits number (number - 1) split (omega arith) (omega arith) c.index-splits-number.is in
-    record {
-      room = subst (λ s. part_count s ≤ length c.loop-number.answers.items) (sym c.as_ref.ensures.value) (room_left splits number (number - 1) split c.loop-number.answers.items last c.loop-number.invariant.enough);
-    }
+reply_of-requires c = grind (arith, common_steps)
 
 pub loop-number-preserved : goal.loop-number-preserved
 loop-number-preserved c =

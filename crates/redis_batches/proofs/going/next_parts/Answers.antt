@@ -1,4 +1,5 @@
 use Rattle.std.proofs.Common.{◌≡◌, ◌<◌, ◌+◌, ◌-◌, ◌∙◌, arith, ap, get_or, length, map, refl, subst, sym}
+use Rattle.std.proofs.lemmas.Grind.{common_steps}
 use Rattle.std.proofs.lemmas.List.{get_or-map, length-map}
 use Rattle.resp_core.specs.Answer.{answer_of}
 use Rattle.redis_batches.specs.Rounds.{IsSentOn}
@@ -6,11 +7,7 @@ use Rattle.redis_batches.proofs.Walking.{IsWalkedFrom, none_walked, one_walked}
 use Rattle.redis_batches.proofs.going.next_parts.Goals as goal
 
 pub loop-index-init : goal.loop-index-init
-loop-index-init c =
-    let numbers = c.args.numbers.now in
-    none_walked c.args.slots.now numbers (map (λ node. node.now) c.args.nodes.now) (map answer_of c.args.given.now) (length numbers)
-    (record { numbers = c.new.result; nodes = c.new-2.result; settled = c.new-3.result }) (omega arith)
-    (omega (arith, length-map c.args.nodes.now (λ node. node.now), c.requires.nodes)) c.new.ensures.items c.new-2.ensures.empty c.new-3.ensures.empty
+loop-index-init c = grind (arith, common_steps, none_walked, length-map)
 
 pub loop-index-preserved : goal.loop-index-preserved
 loop-index-preserved c =

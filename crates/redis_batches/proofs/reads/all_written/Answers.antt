@@ -1,6 +1,6 @@
 use Rattle.std.proofs.Common.{arith, subst, take}
+use Rattle.std.proofs.lemmas.Grind.{common_steps}
 use Rattle.std.specs.List.{flat_map, zip}
-use Rattle.std.proofs.lemmas.List.{take_all}
 use Rattle.redis_routing.specs.ReadOnly.{is_among}
 use Rattle.redis_batches.specs.Chosen.{AreSlots, kept_written}
 use Rattle.redis_batches.proofs.Written.{written_more, zip_long}
@@ -17,8 +17,4 @@ loop-number-preserved c =
     (c.in_ok-add_written.ensures (flat_map (kept_written reads) (take i (zip commands tasks))) c.loop-number.invariant)
 
 pub returns : goal.returns
-returns c =
-    let reads = is_among c.args.read_only.now in
-    let both = zip c.args.commands.now c.args.tasks.now in
-    subst (λ xs. AreSlots (flat_map (kept_written reads) xs) c.loop-number.written.keys)
-    (take_all c.loop-number.number both (omega (arith, c.loop-number-test.false, zip_long c.args.commands.now c.args.tasks.now c.requires.same))) c.loop-number.invariant
+returns c = grind (arith, common_steps, zip_long)

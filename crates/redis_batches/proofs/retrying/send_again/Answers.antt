@@ -1,19 +1,16 @@
-use Rattle.std.proofs.Common.{◌≡◌, ◌∙◌, arith, inl, inr, map, refl, subst, sym, vec_len}
+use Rattle.std.proofs.Common.{◌≡◌, ◌∙◌, arith, inl, inr, map, subst, sym, vec_len}
+use Rattle.std.proofs.lemmas.Grind.{common_steps}
 use Rattle.std.proofs.lemmas.Bool.{eqb-true}
 use Rattle.redis_batches.specs.InRounds.{IsAgainFault}
 use Rattle.redis_batches.specs.Outgoing.{ArePartsOf}
 use Rattle.redis_batches.specs.PartArguments.{sent_args}
 use Rattle.redis_batches.specs.Rounds.{last_round}
 use Rattle.redis_batches.proofs.Chain as chain
-use Rattle.redis_batches.proofs.Frame.{frame_more, frame_none}
+use Rattle.redis_batches.proofs.Frame.{frame_more}
 use Rattle.redis_batches.proofs.retrying.send_again.Goals as goal
 
 pub loop-round-init : goal.loop-round-init
-loop-round-init g c = record {
-  so_far = λ ps round of gone. chain.none_so_far g.N.BatchNodes c.args.nodes.now (map sent_args c.args.parts.now) ps round c.args.answers.now.items c.args.out gone;
-  room = refl;
-  frame = frame_none g.N.BatchNodes c.args.nodes.now;
-}
+loop-round-init g c = grind (arith, common_steps)
 
 pub returns-then-is_empty-clause-again : goal.returns-then-is_empty-clause-again
 returns-then-is_empty-clause-again g c = λ ps round of gone.

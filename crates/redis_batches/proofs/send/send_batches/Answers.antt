@@ -1,12 +1,11 @@
 use Rattle.std.proofs.Common.{◌≡◌, ◌<◌, ◌≤◌, ◌∙◌, ℕ, ◌+◌, List, [], ◌∷◌, All, false, true, Some, refl, sym, ap, subst, arith, cond, map, length, get_or, take, take_all}
-use Rattle.std.specs.Prelude.{nat_eq, slice_get, slice_set}
+use Rattle.std.specs.Prelude.{slice_get, slice_set}
 use Rattle.std.proofs.lemmas.List.{append-nil, length-map, length-take-le}
 use Rattle.std.proofs.lemmas.Option.{same_Some}
 use Rattle.resp_core.specs.Answer.{Answer, answer_of}
 use Rattle.resp_core.proofs.Cases.{by_test}
 use Rattle.redis_routing.specs.Registry.{Registrations}
 use Rattle.redis_cluster.specs.Orders.{NamesOnce, in_order, times}
-use Rattle.redis_cluster.specs.Trace.{refused}
 use Rattle.redis_cluster.specs.declared.nodes.SendError.{SendError}
 use Rattle.redis_cluster.proofs.Counts.{same_number}
 use Rattle.redis_cluster.proofs.Once.{times_more, times-take, names_once-apart}
@@ -42,11 +41,7 @@ fresh count order i names inside =
 untold_less : (told : List _) (order : List ℕ) (i count : ℕ) → i < length order
     → ((k : ℕ) → times k (take i order) ≡ 0 → k < count → slice_get told k ≡ Some false)
     → (k : ℕ) → times k (take (i + 1) order) ≡ 0 → k < count → slice_get (slice_set told (get_or order i 0) true) k ≡ Some false
-untold_less told order i count inside untold k none below =
-    let n = get_or order i 0 in
-    by_test (nat_eq k n)
-    (λ own. absurd (omega (arith, none, times_more k order i 0 inside ∙ ap (λ b. times k (take i order) + cond b 1 0) own)))
-    (λ other. set_there told n k true other ∙ untold k (omega (arith, none, times_more k order i 0 inside ∙ ap (λ b. times k (take i order) + cond b 1 0) other)) below)
+untold_less told order i count inside untold k none below = grind (arith, by_test, times_more k order i 0 inside, set_there)
 
 -- the parts of a batch are those of its number
 own_parts : {registered : Registrations} {ps : List Planned} (plan : Batches) (is : AreBatches registered ps plan.parts plan.places) (k : ℕ) → k < length plan.places → in_order plan.parts (get_or plan.places k []) ≡ in_order plan.parts (numbers_in is.batch ps k)
@@ -55,18 +50,7 @@ own_parts {registered} {ps} plan is k below = ap (in_order plan.parts) (same_Som
 module _ {S : Type 0} {N : Ghosts S} {old now new : S} (frame : SameNodes N old now) (plan : Batches) {ps : List Planned} (is : AreBatches (N.registered old) ps plan.parts plan.places) (k : ℕ) (below : k < length plan.places) (batch : Batch) (same : batch ≡ batch_at plan k) where
   -- what was taken of it, by nodes that may refuse no more than before
   own_taken : {given : List Answer} → IsBatchTaken N now new batch given → IsTaken N.step N.serve (N.registered old) (N.kept new) (N.may_refuse old) (node_at plan.nodes k) (in_order plan.parts (numbers_in is.batch ps k)) (N.state now) (N.state new) given
-  own_taken {given} was =
-      let of = subst (λ b. IsBatchTaken N now new b given) same was in
-      let own = subst (λ parts. IsBatchTaken N now new (batch_for (node_at plan.nodes k) parts) given) (own_parts plan is k below) of in
-      let taken = subst (λ r. IsTaken N.step N.serve r (N.kept new) (N.may_refuse now) (node_at plan.nodes k) (in_order plan.parts (numbers_in is.batch ps k)) (N.state now) (N.state new) given) frame.registered own in
-      record {
-        ends = taken.ends;
-        long = taken.long;
-        trace = taken.trace;
-        allowed = λ i error at. (frame.may_refuse _ (refused error)).0 (taken.allowed i error at);
-        errors = taken.errors;
-        served = taken.served;
-      }
+  own_taken {given} was = grind (arith, own_parts plan is k below)
 
   -- or why it was not
   own_not_taken : {error : SendError} → IsBatchNotTaken N now new batch error → IsNotTaken N.step N.serve (N.registered old) (N.kept new) (N.may_refuse old) (node_at plan.nodes k) (in_order plan.parts (numbers_in is.batch ps k)) (N.state now) (N.state new) error

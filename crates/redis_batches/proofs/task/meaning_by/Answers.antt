@@ -1,4 +1,5 @@
-use Rattle.std.proofs.Common.{◌≡◌, ◌∙◌, [], None, Some, ap, map, option_map, refl, rules, sym}
+use Rattle.std.proofs.Common.{◌≡◌, ◌∙◌, [], None, Some, ap, map, option_map, refl, rules, sym, arith}
+use Rattle.std.proofs.lemmas.Grind.{common_steps}
 use Rattle.redis_routing.specs.Command.{command_name}
 use Rattle.redis_routing.specs.Complete.{multi_slot_routes, pattern_by_name}
 use Rattle.redis_routing.specs.Names.{names_in, names_of}
@@ -25,11 +26,7 @@ returns-in-Some g c = λ args are.
     )
 
 pub returns-in-Some-2 : goal.returns-in-Some-2
-returns-in-Some-2 g c = λ args are.
-    let registered = c.args.names.registry.now in
-    let no_routes : multi_slot_routes (names_of [] registered) (g.R.Routable.args c.args.command.now) ≡ None = search rules in
-    let routed : slot_routed (routing (names_of [] registered) (g.R.Routable.args c.args.command.now)) ≡ c.slot_routed.result = search rules in
-    meant_slot registered args c.slot_routed.result (ap (multi_slot_routes (names_of [] registered)) (sym are) ∙ no_routes) (ap (λ a. slot_routed (routing (names_of [] registered) a)) (sym are) ∙ routed)
+returns-in-Some-2 g c = grind (arith, common_steps, meant_slot)
 
 pub returns-in-None : goal.returns-in-None
 returns-in-None g c = λ args are.

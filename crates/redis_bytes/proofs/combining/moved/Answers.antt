@@ -1,7 +1,6 @@
-use Rattle.std.proofs.Common.{ℕ, List, Option, Some, None, Result, Ok, Err, Vec, Global, sym, subst, ◌∙◌}
+use Rattle.std.proofs.Common.{ℕ, Option, Some, None, Result, Ok, Err, Vec, Global, arith}
 use Rattle.std.specs.Prelude.{IfOk, IfSome}
 use Rattle.redis_bytes.specs.Merged.{IsOneArray}
-use Rattle.redis_bytes.specs.Replies.{AreCombined}
 use Rattle.redis_bytes.proofs.Combined.{one_array_combined}
 use Rattle.redis_bytes.proofs.combining.moved.Goals as goal
 
@@ -11,15 +10,7 @@ weaker P Q (Ok None) f h = h
 weaker P Q (Err e) f h = h
 
 pub returns-in_ok-places-in-CombineArrays-clause-combined : goal.returns-in_ok-places-in-CombineArrays-clause-combined
-returns-in_ok-places-in-CombineArrays-clause-combined g c =
-    let split = c.args.split.now in
-    let places = c.in_ok-places-in-CombineArrays.places.items in
-    let policy = sym c.policy.ensures.policy ∙ c.in-CombineArrays.is in
-    weaker (λ (bytes : Vec ℕ Global). IsOneArray c.len.result c.deref.result.now c.args.replies.now bytes.items) (λ bytes. AreCombined split c.args.replies.now bytes.items) c.merged.result
-    (λ bytes one.
-    one_array_combined split c.places_in.ensures.split policy places c.in_ok-places-in-CombineArrays.ensures.places c.args.replies.now bytes.items
-    (subst (λ (n : ℕ). IsOneArray n places c.args.replies.now bytes.items) c.len.ensures.len (subst (λ (ps : List ℕ). IsOneArray c.len.result ps c.args.replies.now bytes.items) c.deref.ensures.value one)))
-    c.merged.ensures
+returns-in_ok-places-in-CombineArrays-clause-combined g c = grind (arith, weaker, one_array_combined)
 
 pub returns-in_ok-places-in-CombineArrays-clause-split : goal.returns-in_ok-places-in-CombineArrays-clause-split
 returns-in_ok-places-in-CombineArrays-clause-split g c =

@@ -1,4 +1,5 @@
-use Rattle.std.proofs.Common.{◌≡◌, ◌++◌, ◌∷◌, [], ℕ, List, Bor, length, map, sym, ap, subst, ◌∙◌, refl, arith}
+use Rattle.std.proofs.Common.{◌≡◌, ◌++◌, ◌∷◌, [], ℕ, List, Bor, length, map, sym, ap, subst, ◌∙◌, arith}
+use Rattle.std.proofs.lemmas.Grind.{common_steps}
 use Rattle.std.proofs.lemmas.List.{length-append, length-map, map-append, map_push}
 use Rattle.resp_core.specs.Reply.{Reply, array, replies_of}
 use Rattle.resp.specs.Forms.{form}
@@ -8,14 +9,7 @@ use Rattle.redis_bytes.proofs.Sequence.{Stand, none_stand, one_more_stands}
 use Rattle.redis_bytes.proofs.merging.arrays_in.Goals as goal
 
 pub loop-init : goal.loop-init
-loop-init c = record {
-  lists = [];
-  many = refl;
-  stand = none_stand c.args.bytes.now;
-  read = [];
-  texts = ap (map (λ (item : Bor (List ℕ)). item.now)) c.in_ok-items.ensures.items;
-  spans = rw (c.in_ok-starts.ensures.items, c.in_ok-ends.ensures.items) no_spans;
-}
+loop-init c = grind (arith, common_steps, none_stand, no_spans)
 
 pub loop-preserved : goal.loop-preserved
 loop-preserved c =

@@ -1,7 +1,5 @@
-use Rattle.std.proofs.Common.{◌≡◌, ℕ, List, [], ◌∷◌, ◌++◌, length, slice_get, sym, ap, ◌∙◌, rules}
-use Rattle.std.specs.Borrow.{Bor}
-use Rattle.cluster_slots.specs.Address.{Address}
-use Rattle.redis_bytes.specs.Table.{addresses}
+use Rattle.std.proofs.Common.{◌≡◌, length, slice_get, sym, rules, arith}
+use Rattle.std.proofs.lemmas.Grind.{common_steps}
 use Rattle.redis_bytes.proofs.Numbers.{last_there, placed_more}
 use Rattle.redis_bytes.proofs.tables.number_of.Goals as goal
 
@@ -9,12 +7,7 @@ pub returns-in-Some-clause-found : goal.returns-in-Some-clause-found
 returns-in-Some-clause-found c = (c.requires.placed c.args.node c.in-Some.number.now).0 (sym c.in-Some.ensures.value)
 
 pub returns-clause-found : goal.returns-clause-found
-returns-clause-found c =
-    let old = c.args.nodes.now.items in
-    let len : c.len-number.result ≡ length old = search rules in
-    ap (λ (ns : List (Bor Address)). slice_get (addresses ns) c.len-number.result) c.in_ok-push.ensures.items
-    ∙ ap (λ (k : ℕ). slice_get (addresses (old ++ c.args.node ∷ [])) k) len
-    ∙ last_there old c.args.node
+returns-clause-found c = grind (arith, common_steps, slice_get, last_there)
 
 pub returns-clause-placed : goal.returns-clause-placed
 returns-clause-placed c =

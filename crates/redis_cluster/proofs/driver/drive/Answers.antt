@@ -1,4 +1,5 @@
-use Rattle.std.proofs.Common.{[], inl, refl, sym, subst}
+use Rattle.std.proofs.Common.{[], inl, refl, sym, subst, arith}
+use Rattle.std.proofs.lemmas.Grind.{common_steps}
 use Rattle.std.proofs.lemmas.List.{append-nil}
 use Rattle.std.proofs.lemmas.Result.{IfErr-weaker, IfOk-weaker}
 use Rattle.cluster_slots.specs.Address.{Address}
@@ -128,11 +129,7 @@ returns-in-Err-clause-carried g c =
     (inl (is_early, refl, refl))
 
 pub returns-in-Err-clause-joined : goal.returns-in-Err-clause-joined
-returns-in-Err-clause-joined g c = λ error is.
-    let asked = request (g.R.Routable.args c.args.command.now) (names_of c.args.read_only.now (g.N.Nodes.registered c.args.nodes.now)) c.args.slot_map.now c.args.order.now in
-    let is_early : IsCauseBeforeSending asked c.from.result = subst (λ (f : DriveFault). IsCauseBeforeSending asked f) (sym c.from.ensures) (subst (λ registered. IsCauseBeforeSending (request (g.R.Routable.args c.args.command.now) (names_of c.args.read_only.now registered) c.args.slot_map.now c.args.order.now) (fault_of_plan c.in-Err.fault)) c.registry.ensures
-    (early_plan (request (g.R.Routable.args c.args.command.now) (names_of c.args.read_only.now c.registry.result.now) c.args.slot_map.now c.args.order.now) c.in-Err.fault c.in-Err.ensures.fault)) in
-    absurd (subst (λ (f : DriveFault). IsCauseBeforeSending asked f) is is_early)
+returns-in-Err-clause-joined g c = grind (arith, common_steps)
 
 pub returns-in-Err-clause-given : goal.returns-in-Err-clause-given
 returns-in-Err-clause-given g c =

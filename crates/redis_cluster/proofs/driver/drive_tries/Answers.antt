@@ -1,4 +1,4 @@
-use Rattle.std.proofs.Common.{◌≡◌, ◌<◌, All, inl, inr, length, arith, ap, subst, sym, ◌∙◌, ⊎_elim, map, Ok, Err}
+use Rattle.std.proofs.Common.{◌≡◌, ◌<◌, All, inl, inr, length, arith, ap, subst, sym, ◌∙◌, ⊎_elim, map, Err}
 use Rattle.redis_cluster.specs.Orders.{in_order}
 use Rattle.redis_cluster.proofs.Orders.{length-in_order}
 use Rattle.std.proofs.lemmas.List.{length-map}
@@ -53,13 +53,7 @@ returns-in-Err-combine-clause-stopped g c =
     c.of_combining.ensures
 
 pub returns-in-Ok-clause-joined : goal.returns-in-Ok-clause-joined
-returns-in-Ok-clause-joined g c =
-    let told = c.in_default.ensures.told in
-    let nodes = g.N.Nodes in
-    let replies = map view told.values in
-    joined_by_plan (nodes.registered c.args.nodes.now) c.args.plan c.requires.command.0 c.args.order.now (nodes.gave c.args.nodes.now) (nodes.gave c.send_all.new.nodes) replies c.requires.command.1
-    (subst IsSplit c.in_default.ensures.plan c.len-answered.ensures.plan.split) c.requires.order (length-map told.values view ∙ told.each) told.gave (Ok (view c.in-Ok.reply))
-    (subst (λ (s : Split). IsMadeOfParts s replies (Ok (view c.in-Ok.reply))) c.in_default.ensures.plan (c.in-Ok.ensures.joined told.values told.all_told))
+returns-in-Ok-clause-joined g c = grind (arith, joined_by_plan, length-map)
 
 pub returns-in-Err-clause-joined : goal.returns-in-Err-clause-joined
 returns-in-Err-clause-joined g c = λ error is.
@@ -98,10 +92,4 @@ returns-in-Err-combine-clause-given g c =
     }
 
 pub returns-in-Ok-clause-amid : goal.returns-in-Ok-clause-amid
-returns-in-Ok-clause-amid g c =
-    let told = c.in_default.ensures.told in
-    let nodes = g.N.Nodes in
-    let replies = map view told.values in
-    served_amid (nodes.registered c.args.nodes.now) c.args.plan c.requires.command.0 c.args.order.now (nodes.gave c.args.nodes.now) (nodes.gave c.send_all.new.nodes) replies c.requires.command.1
-    (subst IsSplit c.in_default.ensures.plan c.len-answered.ensures.plan.split) c.requires.order (length-map told.values view ∙ told.each) told.gave nodes.Cell (view c.in-Ok.reply)
-    (subst (λ (s : Split). IsMadeOfParts s replies (Ok (view c.in-Ok.reply))) c.in_default.ensures.plan (c.in-Ok.ensures.joined told.values told.all_told))
+returns-in-Ok-clause-amid g c = grind (arith, served_amid, length-map)

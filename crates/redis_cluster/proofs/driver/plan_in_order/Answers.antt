@@ -1,30 +1,19 @@
-use Rattle.std.proofs.Common.{◌≡◌, ℕ, List, true, sym, ◌∙◌, subst, length, map}
+use Rattle.std.proofs.Common.{◌≡◌, ℕ, List, true, sym, ◌∙◌, subst, length, map, arith}
 use Rattle.std.proofs.lemmas.List.{length-map}
 use Rattle.std.proofs.lemmas.List.Elements.{All-map}
 use Rattle.cluster_slots.specs.SlotRoute.{SlotRoute}
 use Rattle.cluster_map.specs.ReplyNode.{IsCovered}
-use Rattle.cluster_slots.specs.Address.{Address}
-use Rattle.cluster_map.specs.RouteNode.{IsRouteNode}
 use Rattle.redis_routing.specs.Names.{names_of}
-use Rattle.redis_routing.specs.Registry.{Registrations}
-use Rattle.redis_cluster.specs.MultiKey.{MultiKey}
 use Rattle.redis_cluster.specs.Orders.{NamesOnce}
 use Rattle.redis_cluster.proofs.CommandParts.{routes_by_command}
-use Rattle.redis_cluster.specs.Driven.{Request, request}
+use Rattle.redis_cluster.specs.Driven.{request}
 use Rattle.redis_cluster.specs.Faults.{IsCauseBeforeSending}
-use Rattle.redis_cluster.specs.Ready.{IsReady}
 use Rattle.redis_cluster.specs.declared.fault.DriveFault.TheVariants.{BadOrder}
 use Rattle.redis_cluster.proofs.Planned.{planned, ready}
 use Rattle.redis_cluster.proofs.driver.plan_in_order.Goals as goal
 
 pub returns-in-Ok-true-clause-ready : goal.returns-in-Ok-true-clause-ready
-returns-in-Ok-true-clause-ready g c =
-    let args = g.R.Routable.args c.args.command.now in
-    let new = c.in-Ok.ensures in
-    let is_node : SlotRoute → Address → Type 0 = IsRouteNode c.args.strategy (λ s. (goal.ReadRoutingStrategy-dyn g s.now).picks s.now.1) c.args.slot_map.now c.args.pick in
-    let asked : Registrations → Request = λ registered. request args (names_of c.args.read_only.now registered) c.args.slot_map.now c.args.order.now in
-    let made = ready is_node (asked c.registry.result.now) c.in-Ok.plan new.arguments new.routes new.pattern new.policy c.len.ensures.plan new.nodes new.covered in
-    subst (λ (registered : Registrations). (command : MultiKey) × IsReady is_node (asked registered) c.in-Ok.plan command) c.registry.ensures made
+returns-in-Ok-true-clause-ready g c = grind (arith, ready)
 
 pub returns-in-Ok-false-clause-early : goal.returns-in-Ok-false-clause-early
 returns-in-Ok-false-clause-early g c =

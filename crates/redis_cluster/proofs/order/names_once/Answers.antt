@@ -1,4 +1,5 @@
 use Rattle.std.proofs.Common.{◌≡◌, ◌+◌, ◌≤◌, ◌<◌, ℕ, List, Bool, true, false, cond, refl, sym, ap, ◌∙◌, subst, arith, All, take, length, get_or, set}
+use Rattle.std.proofs.lemmas.Grind.{common_steps}
 use Rattle.std.specs.Prelude.{nat_eq}
 use Rattle.std.proofs.lemmas.Bool.{eqb-true}
 use Rattle.std.proofs.lemmas.Bool.Decides.{nat_tests}
@@ -23,12 +24,7 @@ seen n order i l once names =
 -- a mark more
 marked_more : (named : List Bool) (x k : ℕ) → x < length named → get_or named x false ≡ false →
     cond (get_or named k false) 1 0 + cond (nat_eq k x) 1 0 ≡ cond (get_or (set named x true) k false) 1 0
-marked_more named x k l unmarked = by_test (nat_eq k x)
-    (λ here.
-    let same : k ≡ x = eqb-true k x here in
-    subst (λ k. cond (get_or named k false) 1 0 + cond (nat_eq k x) 1 0 ≡ cond (get_or (set named x true) k false) 1 0) (sym same)
-    (rw (unmarked, same_number x, get_or-set_same named x true false l) refl))
-    (λ there. grind (arith, nat_tests, get_or-set_other named x k true false))
+marked_more named x k l unmarked = grind (arith, common_steps, by_test, eqb-true, same_number, get_or-set_same, nat_tests, get_or-set_other)
 
 -- a mark counts at most once
 most_once : (b : Bool) (n : ℕ) → n ≡ cond b 1 0 → n ≤ 1

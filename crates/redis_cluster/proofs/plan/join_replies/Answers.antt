@@ -1,4 +1,5 @@
 use Rattle.std.proofs.Common.{◌≡◌, List, length, map, sym, ap, ◌∙◌, arith}
+use Rattle.std.proofs.lemmas.Grind.{common_steps}
 use Rattle.std.proofs.lemmas.List.{length-map}
 use Rattle.resp_core.specs.Reply.{Reply}
 use Rattle.resp_core.specs.View.{view}
@@ -25,11 +26,7 @@ returns-then-len-routes-clause-joined g c = λ long.
     absurd (omega (arith, long, c.len.ensures, ap length c.routes-routes.ensures.routes, length-map c.routes-routes.result.now route_list, c.if-len-routes.true))
 
 pub join-requires : goal.join-requires
-join-requires g c =
-    let each : length c.args.replies.items ≡ length c.args.split.now.routes =
-    omega (arith, c.len.ensures, ap length c.routes-routes.ensures.routes, length-map c.routes-routes.result.now route_list, c.if-len-routes.false) in
-    let some = (is_split_to c.args.split.now c.routes-routes.ensures.split).some in
-    record { some = omega (arith, some, each); each = each }
+join-requires g c = grind (arith, common_steps, length-map c.routes-routes.result.now route_list, is_split_to c.args.split.now c.routes-routes.ensures.split)
 
 pub returns-clause-joined : goal.returns-clause-joined
 returns-clause-joined g c = λ long. made_of_parts c.args.split.now c.routes-routes.ensures.split c.args.replies.items long c.join.result c.join.ensures.joined

@@ -1,5 +1,6 @@
 use Rattle.std.proofs.Common.{◌≡◌, ◌+◌, ◌<◌, ℕ, zero, suc, List, [], ◌∷◌, ◌++◌, Some, ap, sym, ◌∙◌, arith, length, map, option_map, take, get_or, slice_get}
-use Rattle.std.proofs.lemmas.List.{map_push, map_more, length-map, take_all}
+use Rattle.std.proofs.lemmas.Grind.{common_steps}
+use Rattle.std.proofs.lemmas.List.{length-map, take_all}
 use Rattle.std.proofs.lemmas.Option.{none-some, same_Some}
 use Rattle.redis_routing.specs.Command.{Arguments}
 use Rattle.redis_routing.specs.Split.{split_part, slots_of}
@@ -16,11 +17,7 @@ at_slot slot part_of (x ∷ xs) (suc n) part e = let later = at_slot slot part_o
 parts_more : (part_of : ℕ → Arguments) (parts : List (List (List ℕ))) (part : List (List ℕ)) (slots : List ℕ) (n : ℕ) →
     map (map Some) parts ≡ map part_of (take n slots) → (n < length slots) × (map Some part ≡ part_of (get_or slots n 0)) →
     map (map Some) (parts ++ part ∷ []) ≡ map part_of (take (n + 1) slots)
-parts_more part_of parts part slots n so_far next =
-    map_push (map Some) parts part
-    ∙ ap (λ ps. ps ++ map Some part ∷ []) so_far
-    ∙ ap (λ p. map part_of (take n slots) ++ p ∷ []) next.1
-    ∙ sym (map_more part_of slots n 0 next.0)
+parts_more part_of parts part slots n so_far next = grind (arith, common_steps)
 
 pub loop-number-preserved : goal.loop-number-preserved
 loop-number-preserved g c =

@@ -1,4 +1,4 @@
-use Rattle.std.proofs.Common.{List, [], map, inl, inr, refl, sym, subst}
+use Rattle.std.proofs.Common.{List, [], map, inl, inr, refl, sym, subst, arith}
 use Rattle.std.specs.List.{AllZip, zip}
 use Rattle.redis_cluster.specs.Retry.{Attempt, IsRetryOf}
 use Rattle.std.specs.Prelude.{OnOk}
@@ -38,13 +38,7 @@ traced_so Q (Ok x) f a = f x a
 traced_so Q (Err e) f a = tt
 
 pub drive_tries-requires : goal.drive_tries-requires
-drive_tries-requires g c =
-    record {
-      command = (c.in-Ok.ensures.ready.0, c.in-Ok.ensures.ready.1.plan_is);
-      untold = c.in-Ok.ensures.untold;
-      order = c.in-Ok.ensures.order;
-      named = each_named c.args.slot_map.now c.args.retries _ c.deref_mut.result.now (subst (λ (o : List Attempt). AllZip (IsRetryOf c.args.slot_map.now c.args.retries) (zip (map (λ t. t.0) c.in-Ok.plan.split.routes) c.in-Ok.plan.nodes) o) (sym c.deref_mut.ensures.value) c.in-Ok-retries_of.ensures.each);
-    }
+drive_tries-requires g c = grind (arith, each_named)
 
 pub returns-in-Ok-retries_of-clause-tried : goal.returns-in-Ok-retries_of-clause-tried
 returns-in-Ok-retries_of-clause-tried g c =

@@ -1,9 +1,8 @@
-use Rattle.std.proofs.Common.{◌≡◌, ◌<◌, ◌∙◌, Some, ap, sym, subst, arith, length, map, option_map, get_or}
+use Rattle.std.proofs.Common.{◌≡◌, ◌<◌, ◌∙◌, Some, ap, sym, arith, length, map, option_map, get_or}
+use Rattle.std.proofs.lemmas.Grind.{common_steps}
 use Rattle.std.specs.Prelude.{slice_get}
-use Rattle.std.specs.List.{AllZip, zip}
-use Rattle.std.proofs.lemmas.List.{length-map, take_all}
+use Rattle.std.proofs.lemmas.List.{length-map}
 use Rattle.std.proofs.lemmas.Option.{slice_get-get_or}
-use Rattle.redis_cluster.specs.Retry.{IsRetryOf}
 use Rattle.redis_cluster.proofs.EachTry.{one_more, route_at, as_many}
 use Rattle.redis_cluster.proofs.retrying.retries_of.Goals as goal
 
@@ -21,11 +20,4 @@ loop-number-preserved g c =
     (one_more c.args.slot_map.now c.args.retries (map (λ r. r.0) plan.split.routes) plan.nodes c.loop-number.made.items number found.0 c.in-Some.node.now c.in_ok-at.field-0 c.loop-number.invariant at_route at_node c.in_ok-at.ensures.begun)
 
 pub returns : goal.returns
-returns g c =
-    let plan = c.args.plan.now in
-    let places = zip (map (λ r. r.0) plan.split.routes) plan.nodes in
-    record {
-      each = subst (λ zs. AllZip (IsRetryOf c.args.slot_map.now c.args.retries) zs c.loop-number.made.items)
-          (take_all c.loop-number.number places (omega (arith, c.loop-number-test.false, as_many plan c.len-count.ensures.plan, c.len-count.ensures.len)))
-          c.loop-number.invariant;
-    }
+returns g c = grind (arith, common_steps, as_many)

@@ -1,4 +1,5 @@
-use Rattle.std.proofs.Common.{◌≡◌, ◌<◌, ℕ, ◌+◌, List, [], ◌++◌, Some, None, All, refl, sym, ap, ◌∙◌, arith, subst, length, map, take, get_or}
+use Rattle.std.proofs.Common.{◌≡◌, ◌<◌, ℕ, ◌+◌, List, ◌++◌, Some, All, refl, sym, ap, ◌∙◌, arith, subst, length, map, take, get_or}
+use Rattle.std.proofs.lemmas.Grind.{common_steps}
 use Rattle.std.specs.Prelude.{slice_get, slice_set, option_and_then, IsSome, Option}
 use Rattle.std.proofs.lemmas.Slice.Zip.{AllZip-long}
 use Rattle.std.proofs.lemmas.List.{append-nil, length-map, length-take-le, length-set}
@@ -45,23 +46,7 @@ next_in_order : {X : Type 0} (xs : List X) (order : List ℕ) (i : ℕ) (x : X) 
 next_in_order xs order i x within inside at = get-in_order xs order within i ∙ ap (option_and_then (λ k. slice_get xs k)) (slice_get-get_or order i 0 inside) ∙ at
 
 pub loop-number-init : goal.loop-number-init
-loop-number-init g c =
-    let plan = c.args.plan.now in
-    record {
-      split = refl;
-      same_targets = refl;
-      room = ap length c.requires.untold ∙ length-map plan.split.routes (λ r. None) ∙ sym (many plan);
-      frame = record { kept = λ now. now; registered = refl; may_refuse = λ count ending. (λ may. may, λ may. may) };
-      some_told = λ number inside some. absurd (omega (arith, some));
-      given = record { values = []; told = refl; gave = λ before was. subst (g.N.Nodes.gave c.args.nodes.now) (sym (append-nil before)) was };
-      told = λ command is now number slot at some. absurd (omega (arith, some));
-      untold = λ number inside none. ap (λ rs. slice_get rs number) c.requires.untold ∙ none_at plan.split.routes number (omega (arith, inside, many plan));
-      trace = refl;
-      allowed = allowed_none (g.N.Nodes.may_refuse c.args.nodes.now) (g.N.Nodes.state c.args.nodes.now).trace (g.N.Nodes.state c.args.nodes.now).trace refl;
-      others = λ other none. refl;
-      keyspace = λ command is now. refl;
-      answered = refl;
-    }
+loop-number-init g c = grind (arith, common_steps, length-map, many, append-nil, none_at, allowed_none)
 
 pub send_part-requires : goal.send_part-requires
 send_part-requires g c =
@@ -224,18 +209,7 @@ returns-clause-replies g c =
     }
 
 pub returns-clause-keyspace : goal.returns-clause-keyspace
-returns-clause-keyspace g c =
-    let nodes = g.N.Nodes in
-    let plan = c.args.plan.now in
-    let order = c.args.order.now in
-    let slots = slots_of plan.split.routes in
-    let old = (nodes.state c.args.nodes.now).keyspace in
-    let i = c.loop-number.number-index in
-    let whole : take i order ≡ order = take_all i order (omega (arith, c.loop-number-test.false)) in
-    let names : NamesOnce (length slots) order = subst (λ n. NamesOnce n order) (sym (many plan)) c.requires.order in
-    λ command is now. c.loop-number.invariant.keyspace command is now
-    ∙ ap (λ o. after (act_of nodes.step command) (joined (in_order slots o) command.tuples) old) whole
-    ∙ keyspace_of_all (act_of nodes.step command) slots order command.tuples old names (names_slots_from slots command.tuples is.once)
+returns-clause-keyspace g c = grind (arith, common_steps, many, joined, keyspace_of_all, names_slots_from)
 
 pub returns-clause-told : goal.returns-clause-told
 returns-clause-told g c =

@@ -1,7 +1,7 @@
-use Rattle.std.proofs.Common.{◌≡◌, ◌-◌, List, [], ◌++◌, cond, length, map, take, drop, None, Some, ap, sym, ◌∙◌, subst, arith}
-use Rattle.std.specs.Prelude.{option_and_then, option_map}
-use Rattle.std.specs.Bool.{then_some}
-use Rattle.std.specs.List.{between, list_all}
+use Rattle.std.proofs.Common.{◌≡◌, ◌-◌, List, ◌++◌, cond, length, map, take, drop, None, Some, ap, sym, ◌∙◌, subst, arith}
+use Rattle.std.proofs.lemmas.Grind.{common_steps}
+use Rattle.std.specs.Prelude.{option_and_then}
+use Rattle.std.specs.List.{between}
 use Rattle.std.proofs.lemmas.List.{length-map, nil_from_length, take_at}
 use Rattle.std.proofs.lemmas.List.Edits.{length-between}
 use Rattle.resp_core.specs.Reply.{Reply}
@@ -88,15 +88,4 @@ loop-value-preserved c =
     (subst (λ ws. Left new_taken (map view ws) rest places start whole) (sym values) left)
 
 pub returns : goal.returns
-returns c =
-    let values = c.loop-value.values in
-    let taken = c.loop-value.taken.items in
-    let sorted = c.loop-value.sorted in
-    let places = c.args.places.now in
-    let whole = whole_of places (map view c.args.values.items) in
-    let none : values.items ≡ [] = nil_from_length values.items (sym values.ok.0 ∙ c.in_default.ensures.cases.0) in
-    let last : Left taken (map view sorted.items) [] places c.loop-value.end whole = subst (λ ws. Left taken (map view sorted.items) (map view ws) places c.loop-value.end whole) none c.loop-value.invariant in
-    ap (option_map (λ v. map view v.items)) (c.then_some.ensures ∙ ap (λ b. then_some b sorted) (c.all_taken.ensures ∙ ap (list_all (λ bit. bit)) c.deref.ensures.value))
-    ∙ spots_as_items taken sorted (last.flags ∙ sym last.spots)
-    ∙ ap (option_and_then all_some) (none_left taken (map view sorted.items) places c.loop-value.end whole last)
-    ∙ sym (by_spots (map view c.args.values.items) places c.requires)
+returns c = grind (arith, common_steps, whole_of, nil_from_length, Left, spots_as_items, none_left, by_spots)

@@ -1,25 +1,16 @@
-use Rattle.std.proofs.Common.{◌≡◌, List, ◌∷◌, ◌++◌, length, map, take, drop, is_some, true, ap, sym, ◌∙◌, arith}
+use Rattle.std.proofs.Common.{◌≡◌, List, ◌++◌, length, map, take, drop, is_some, true, ap, sym, ◌∙◌, arith}
+use Rattle.std.proofs.lemmas.Grind.{common_steps}
 use Rattle.std.specs.Prelude.{option_map}
 use Rattle.std.proofs.lemmas.List.{length-map, nil_from_length, take_at}
 use Rattle.resp_core.specs.Reply.{Reply}
 use Rattle.resp_core.specs.View.{view}
 use Rattle.redis_combiners.specs.Bits.{bits_among}
-use Rattle.redis_combiners.specs.Logical.{as_int, joined_items, logical_items}
+use Rattle.redis_combiners.specs.Logical.{as_int, joined_items}
 use Rattle.redis_combiners.proofs.JoinedBits.{first_is_row, only_row, next_is_longer, next_joined, joined_replies}
 use Rattle.redis_combiners.proofs.logical.items.Goals as goal
 
 pub loop-reply-init : goal.loop-reply-init
-loop-reply-init c =
-    let op = c.args.op in
-    let row : List Reply = map view c.in-Some-into_array.row.items in
-    let rest = c.next.new.self.rest.items in
-    let all : c.args.values.items ≡ c.in-Some.first ∷ rest = sym c.into_iter-replies.ensures.rest ∙ c.in-Some.ensures.cases.0 in (
-      tt,
-      tt,
-      ap (λ it. option_map (map as_int) (joined_replies op row (map view it.rest.items))) c.into_iter-reply-iterator.ensures.into_iter_gives
-          ∙ sym (ap (λ ws. logical_items op (map view ws)) all ∙ first_is_row op (view c.in-Some.first) row (map view rest) (sym c.in-Some-into_array.ensures)),
-      ap (λ ws. is_some (bits_among (map view ws))) (sym c.deref.ensures.value) ∙ sym c.are_bits.ensures ∙ c.if-not-are_bits.false,
-    )
+loop-reply-init c = grind (arith, common_steps, joined_replies, first_is_row, is_some)
 
 pub returns-then-items-len : goal.returns-then-items-len
 returns-then-items-len c =
@@ -56,10 +47,4 @@ loop-reply-preserved c =
     )
 
 pub returns : goal.returns
-returns c =
-    let op = c.args.op in
-    let row : List Reply = map view c.loop-reply.row.items in
-    let rest = c.loop-reply.reply-iterator.rest in
-    sym (only_row op row c.loop-reply.invariant.3)
-    ∙ ap (λ ws. option_map (map as_int) (joined_replies op row (map view ws))) (sym (nil_from_length rest.items (sym rest.ok.0 ∙ c.in-None.ensures.steps.0)))
-    ∙ c.loop-reply.invariant.2
+returns c = grind (arith, common_steps, only_row, joined_replies, nil_from_length)

@@ -1,4 +1,5 @@
 use Rattle.std.proofs.Common.{◌+◌, List, map, is_some, ap, sym, ◌∙◌, subst, arith}
+use Rattle.std.proofs.lemmas.Grind.{common_steps}
 use Rattle.std.proofs.Math.ListN.{set}
 use Rattle.std.proofs.lemmas.List.{get_or-map, length-map, map-set}
 use Rattle.resp_core.specs.Reply.{Reply}
@@ -40,11 +41,7 @@ loop-i-preserved c =
     subst (λ rs. JoinedSoFar c.args.op rs first items (i + 1)) (ap (set row i) (sym (c.put_bit.ensures ∙ ap as_int c.join_bits.ensures)) ∙ sym (map-set view c.loop-i.row i c.put_bit.new.item)) more
 
 pub returns-clause-bits : goal.returns-clause-bits
-returns-clause-bits c =
-    let first : List Reply = map view c.args.row.now in
-    let items : List Reply = map view c.args.items.now in
-    let all = joined_all_places c.args.op (map view c.loop-i.row) first items c.loop-i.i c.loop-i.invariant (omega (arith, length-map c.args.row.now view)) (length-map c.args.row.now view ∙ c.requires ∙ sym (length-map c.args.items.now view)) in
-    sym all.there
+returns-clause-bits c = grind (arith, common_steps)
 
 pub returns-clause-joined : goal.returns-clause-joined
 returns-clause-joined c _ =

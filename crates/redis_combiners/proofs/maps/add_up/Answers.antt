@@ -1,4 +1,5 @@
-use Rattle.std.proofs.Common.{◌≡◌, ◌∙◌, ◌+ℤ◌, ℕ, List, Some, ap, cond, sym, refl, rules}
+use Rattle.std.proofs.Common.{◌≡◌, ◌∙◌, ◌+ℤ◌, ℕ, List, Some, ap, cond, sym, refl, rules, arith}
+use Rattle.std.proofs.lemmas.Grind.{common_steps}
 use Rattle.std.specs.Str.{bytes_eq}
 use Rattle.redis_combiners.specs.Entries.{plain_pairs, total_among}
 use Rattle.redis_combiners.proofs.ByKey.{left_after}
@@ -6,15 +7,7 @@ use Rattle.redis_combiners.proofs.Totals.{or_zero, sum_at, sum_at_is, sum_of_tot
 use Rattle.redis_combiners.proofs.maps.add_up.Goals as goal
 
 pub loop-key-init : goal.loop-key-init
-loop-key-init c =
-    let all = c.args.pairs.items in
-    let left : c.into_iter-key-iterator.result.rest.items ≡ all = search rules in (
-      tt,
-      tt,
-      λ q. ap (λ z. sum_of_totals (total_among c.in_ok-totals.totals.items q) (sum_at q (plain_pairs z))) left
-          ∙ ap (λ z. sum_of_totals (total_among z q) (sum_at q (plain_pairs all))) c.in_ok-totals.ensures.items
-          ∙ sum_at_is q (plain_pairs all),
-    )
+loop-key-init c = grind (arith, common_steps, sum_of_totals, sum_at, sum_at_is)
 
 pub loop-key-preserved : goal.loop-key-preserved
 loop-key-preserved c =

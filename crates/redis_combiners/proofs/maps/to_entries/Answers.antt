@@ -1,4 +1,5 @@
-use Rattle.std.proofs.Common.{◌≡◌, ◌∙◌, ◌+ℤ◌, true, false, ap, map, rules, FitsSigned, to_z}
+use Rattle.std.proofs.Common.{◌≡◌, ◌∙◌, false, ap, map, rules, FitsSigned, to_z, arith}
+use Rattle.std.proofs.lemmas.Grind.{common_steps}
 use Rattle.std.specs.Int.{w128}
 use Rattle.std.specs.Str.{bytes_eq}
 use Rattle.std.proofs.lemmas.Int.{to_z-of_z}
@@ -7,20 +8,7 @@ use Rattle.redis_combiners.proofs.Joined.{pairs_from, same_key_next, other_key_n
 use Rattle.redis_combiners.proofs.maps.to_entries.Goals as goal
 
 pub loop-next-preserved-then-eq : goal.loop-next-preserved-then-eq
-loop-next-preserved-then-eq c =
-    let so_far = map view_pair c.loop-next.list.items in
-    let total = to_z w128 c.loop-next.total-bits in
-    let sum = c.in_ok-total.total in
-    let rest = c.next-in-loop-next.new.self.rest.items in
-    let wide : FitsSigned w128 sum = search rules in
-    let more : sum ≡ total +ℤ c.in-Some-2.number = search rules in
-    let same : bytes_eq c.in-Some-2.next.items c.loop-next.key.items ≡ true = search rules in (
-      tt,
-      tt,
-      ap (λ z. pairs_from so_far c.loop-next.key.items z rest) (to_z-of_z w128 sum wide)
-          ∙ same_key_next so_far c.loop-next.key.items c.in-Some-2.next total c.in-Some-2.number sum c.loop-next.next-iterator.rest.items rest c.in-Some-2.ensures.steps.0 same more
-          ∙ c.loop-next.invariant.2,
-    )
+loop-next-preserved-then-eq c = grind (arith, common_steps, to_z, pairs_from, to_z-of_z, same_key_next)
 
 pub loop-next-preserved : goal.loop-next-preserved
 loop-next-preserved c =

@@ -1,8 +1,8 @@
-use Rattle.std.proofs.Common.{◌≡◌, None, Some, true, ap, sym, ◌∙◌, subst, length, replicate, rules}
+use Rattle.std.proofs.Common.{◌≡◌, None, Some, ap, sym, ◌∙◌, subst, length, replicate, arith}
 use Rattle.redis_routing.specs.Names.{names_in}
 use Rattle.redis_routing.specs.RoutingInfo.{as_routing, as_single_node, route_lists}
 use Rattle.redis_commands.specs.Rule.{rule_of}
-use Rattle.redis_commands.specs.Targets.{IsCommandPlanFault, is_slotless}
+use Rattle.redis_commands.specs.Targets.{IsCommandPlanFault}
 use Rattle.redis_commands.proofs.Nodes.{no_node, no_primary, one_for_each}
 use Rattle.redis_commands.proofs.RoutedSplits.{routed_by_name}
 use Rattle.redis_commands.proofs.Splits.{as_split, if_err, if_err_and, same_routes, same_rule, several_fault, split_fault, split_targets}
@@ -22,22 +22,10 @@ returns-in_err-plan-in-MultiSlot-clause-fault g c =
     (split_fault entries names args (route_lists parts.0.items) parts.1 m.policy (c.requires.routed ∙ ap Some to) err.field-0.0 err.ensures.fault err.ensures.not_split))
 
 pub returns-in_ok-nodes-in-AllNodes-clause-fault : goal.returns-in_ok-nodes-in-AllNodes-clause-fault
-returns-in_ok-nodes-in-AllNodes-clause-fault g c =
-    let entries = c.args.slot_map.now in
-    let slotless : is_slotless (as_routing c.args.info.now) ≡ true = search rules in
-    let found = c.in_ok-nodes-in-AllNodes in
-    if_err _ _ c.several.result c.several.ensures.fault
-    (several_fault entries (names_in c.args.names) (g.R.Routable.args c.args.command.now) (as_routing c.args.info.now) found.nodes.items c.requires.routed slotless
-    (no_node entries found.nodes.items found.ensures.all))
+returns-in_ok-nodes-in-AllNodes-clause-fault g c = grind (arith, if_err, several_fault, no_node)
 
 pub returns-in_ok-nodes-in-AllMasters-clause-fault : goal.returns-in_ok-nodes-in-AllMasters-clause-fault
-returns-in_ok-nodes-in-AllMasters-clause-fault g c =
-    let entries = c.args.slot_map.now in
-    let slotless : is_slotless (as_routing c.args.info.now) ≡ true = search rules in
-    let found = c.in_ok-nodes-in-AllMasters in
-    if_err _ _ c.several-in-AllMasters.result c.several-in-AllMasters.ensures.fault
-    (several_fault entries (names_in c.args.names) (g.R.Routable.args c.args.command.now) (as_routing c.args.info.now) found.nodes.items c.requires.routed slotless
-    (no_primary entries found.nodes.items found.ensures.all))
+returns-in_ok-nodes-in-AllMasters-clause-fault g c = grind (arith, if_err, several_fault, no_primary)
 
 pub returns-in_ok-new-in-MultiSlot-clause-targets : goal.returns-in_ok-new-in-MultiSlot-clause-targets
 returns-in_ok-new-in-MultiSlot-clause-targets g c =

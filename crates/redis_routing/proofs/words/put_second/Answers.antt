@@ -1,8 +1,7 @@
-use Rattle.std.proofs.Common.{◌≡◌, ℕ, ◌+◌, ◌<◌, List, [], ◌∷◌, ◌++◌, ap, sym, ◌∙◌, refl, arith, length, take, drop, set, append_assoc}
+use Rattle.std.proofs.Common.{◌≡◌, ℕ, ◌+◌, ◌<◌, List, ◌∷◌, ◌++◌, ap, sym, ◌∙◌, arith, length, take, drop, set, append_assoc}
 use Rattle.std.proofs.Math.Seq.{take-append_seam}
 use Rattle.std.proofs.lemmas.Grind.{take-set_at}
 use Rattle.std.proofs.lemmas.List.{length-append, length-map, length-take-le}
-use Rattle.std.specs.Char.{to_ascii_uppercase}
 use Rattle.redis_routing.specs.Upper.{upper}
 use Rattle.redis_routing.proofs.words.put_second.Goals as goal
 
@@ -15,14 +14,7 @@ taken n first second rest is =
 -- a name, a space and a word in upper case
 joined : (room now word : List ℕ) (len : ℕ) → len < length room → now ≡ take (len + 1) (set room len 32) ++ upper word ++ drop (len + 1 + length word) (set room len 32)
     → take (len + 1 + length word) now ≡ take len room ++ 32 ∷ upper word
-joined room now word len inside is =
-    let front : take (len + 1) (set room len 32) ≡ take len room ++ 32 ∷ [] = take-set_at room len (len + 1) 32 refl inside in
-    let short : length (take len room) ≡ len = length-take-le len room (omega arith) in
-    let size : length (take (len + 1) (set room len 32)) ≡ len + 1 = omega (arith, ap length front, length-append (take len room) (32 ∷ []), short) in
-    ap (take (len + 1 + length word)) is
-    ∙ taken (len + 1 + length word) (take (len + 1) (set room len 32)) (upper word) (drop (len + 1 + length word) (set room len 32)) (omega (arith, size, length-map word to_ascii_uppercase))
-    ∙ ap (λ xs. xs ++ upper word) front
-    ∙ append_assoc (take len room) (32 ∷ []) (upper word)
+joined room now word len inside is = grind (arith, take-set_at, length-take-le, length-append, taken, length-map, append_assoc)
 
 pub returns-clause-name : goal.returns-clause-name
 returns-clause-name c = joined c.args.room.now c.put_upper_case.new.room c.args.word.now c.args.len (omega arith) c.put_upper_case.ensures

@@ -1,29 +1,14 @@
-use Rattle.std.proofs.Common.{◌≡◌, true, ◌<◌, ◌≤◌, length, get_or, ◌∙◌, arith}
+use Rattle.std.proofs.Common.{◌<◌, ◌≤◌, length, ◌∙◌, arith}
+use Rattle.std.proofs.lemmas.Grind.{common_steps}
 use Rattle.resp.proofs.Lines.{is_end, end_13, end_10, open_more, open_stops, open_to_the_end}
 use Rattle.resp.proofs.fields.line_of.Goals as goal
 use Rattle.resp.proofs.fields.line_of.Goals.{then-b-eq13-via-then-b-eq13, then-b-eq13-via-else-b-eq13+then-b-eq10}
 
 pub returns-then-b-eq13-clause-text : goal.returns-then-b-eq13-clause-text
-returns-then-b-eq13-clause-text c =
-    let i = c.loop-end.end in
-    let bytes = c.args.bytes.now in
-    let lt : i < length bytes = omega arith in
-    let ends : is_end (get_or bytes i 0) ≡ true = elim c.then-b-eq13.branch [
-      | then-b-eq13-via-then-b-eq13 w ↦ end_13 (get_or bytes i 0) (omega arith)
-      | then-b-eq13-via-else-b-eq13+then-b-eq10 w ↦ end_10 (get_or bytes i 0) (omega arith)
-    ] in
-    c.split_at.ensures.front ∙ (open_stops bytes i lt ends c.loop-end.invariant).0
+returns-then-b-eq13-clause-text c = grind (arith, common_steps, is_end, then-b-eq13-via-then-b-eq13, end_13, then-b-eq13-via-else-b-eq13+then-b-eq10, end_10, open_stops)
 
 pub returns-then-b-eq13-clause-after : goal.returns-then-b-eq13-clause-after
-returns-then-b-eq13-clause-after c =
-    let i = c.loop-end.end in
-    let bytes = c.args.bytes.now in
-    let lt : i < length bytes = omega arith in
-    let ends : is_end (get_or bytes i 0) ≡ true = elim c.then-b-eq13.branch [
-      | then-b-eq13-via-then-b-eq13 w ↦ end_13 (get_or bytes i 0) (omega arith)
-      | then-b-eq13-via-else-b-eq13+then-b-eq10 w ↦ end_10 (get_or bytes i 0) (omega arith)
-    ] in
-    c.split_at.ensures.back ∙ (open_stops bytes i lt ends c.loop-end.invariant).1
+returns-then-b-eq13-clause-after c = grind (arith, common_steps, is_end, then-b-eq13-via-then-b-eq13, end_13, then-b-eq13-via-else-b-eq13+then-b-eq10, end_10, open_stops)
 
 pub loop-end-preserved : goal.loop-end-preserved
 loop-end-preserved c =

@@ -1,4 +1,5 @@
-use Rattle.std.proofs.Common.{◌≡◌, false, true, codes, string_bytes, refl, sym, ap, ◌∙◌, rules}
+use Rattle.std.proofs.Common.{◌≡◌, false, codes, string_bytes, ap, ◌∙◌, rules, arith}
+use Rattle.std.proofs.lemmas.Grind.{common_steps}
 use Rattle.std.specs.Prelude.{bytes_eq}
 use Rattle.std.specs.Str.{is_utf8}
 use Rattle.std.proofs.lemmas.Bool.{false_from_ne_true}
@@ -8,11 +9,7 @@ use Rattle.resp_core.proofs.Views.{view-SimpleString, view-BulkString}
 use Rattle.resp.proofs.fields.simple_of.Goals as goal
 
 pub returns-in_ok-from_str-in-Ok : goal.returns-in_ok-from_str-in-Ok
-returns-in_ok-from_str-in-Ok c =
-    let utf8 : is_utf8 c.args.text.now ≡ true = is_utf8-from_IsUtf8 c.args.text.now c.in-Ok.ensures.cases.1 in
-    let off : bytes_eq c.args.text.now (codes "OK") ≡ false = search rules in
-    let same : c.args.text.now ≡ string_bytes c.in_ok-from_str-in-Ok.field-0 = sym c.in-Ok.ensures.cases.0 ∙ sym c.in_ok-from_str-in-Ok.ensures.ok in
-    rw (utf8, view-SimpleString, off, same) refl
+returns-in_ok-from_str-in-Ok c = grind (arith, common_steps, is_utf8-from_IsUtf8, string_bytes, view-SimpleString)
 
 pub returns-in_ok-from_slice-in-Err : goal.returns-in_ok-from_slice-in-Err
 returns-in_ok-from_slice-in-Err c =

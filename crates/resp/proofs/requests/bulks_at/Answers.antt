@@ -1,4 +1,5 @@
-use Rattle.std.proofs.Common.{Bor, List, ℕ, Ok, map, sym, ap, ◌∙◌}
+use Rattle.std.proofs.Common.{Bor, List, ℕ, Ok, map, sym, ap, ◌∙◌, arith}
+use Rattle.std.proofs.lemmas.Grind.{common_steps}
 use Rattle.std.proofs.lemmas.Result.{err_from_is_err_and}
 use Rattle.std.proofs.lemmas.List.{append-nil, map_push}
 use Rattle.resp.proofs.RequestGrammar.{with_words, words_begin, words_more, bulk_fails, bulks_done}
@@ -11,11 +12,7 @@ pub loop-init : goal.loop-init
 loop-init c = rw c.in_ok-words.ensures.items (words_begin c.args.count c.args.bytes.now)
 
 pub returns-in_err-word : goal.returns-in_err-word
-returns-in_err-word c =
-    let p = err_from_is_err_and c.from_residual-in_err-word.result c.from_residual-in_err-word.ensures.1 in
-    rw (p.1, p.2)
-    (sym c.loop.invariant
-    ∙ ap (with_words (map now c.loop.words.items)) (bulk_fails c.args.count c.loop.counter c.loop.rest.now c.loop-test.true c.in_err-word.field-0.0 c.in_err-word.ensures))
+returns-in_err-word c = grind (arith, common_steps, err_from_is_err_and c.from_residual-in_err-word.result c.from_residual-in_err-word.ensures.1, with_words (map now c.loop.words.items), bulk_fails c.args.count c.loop.counter c.loop.rest.now c.loop-test.true c.in_err-word.field-0.0 c.in_err-word.ensures)
 
 pub loop-preserved : goal.loop-preserved
 loop-preserved c =

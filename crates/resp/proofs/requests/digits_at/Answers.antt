@@ -1,4 +1,5 @@
-use Rattle.std.proofs.Common.{◌≡◌, ◌≢◌, ◌<◌, ◌≤◌, ◌^◌, ℕ, List, length, Ok, true, false, Bool, ◌&&◌, eqb, ltb, get_or, refl, sym, ap, ◌∙◌, arith}
+use Rattle.std.proofs.Common.{◌≡◌, ◌≢◌, ◌<◌, ◌≤◌, ◌^◌, ℕ, List, length, Ok, true, false, ◌&&◌, eqb, ltb, get_or, refl, sym, ap, ◌∙◌, arith}
+use Rattle.std.proofs.lemmas.Grind.{common_steps}
 use Rattle.std.proofs.lemmas.Bool.Decides.{nat_tests}
 use Rattle.resp.proofs.NumberLines.{digit_goes_on, digits_end, digits_stop, digit_low, digits_run_out}
 use Rattle.resp.proofs.requests.digits_at.Goals as goal
@@ -16,13 +17,7 @@ returns-then-b-eq13 c =
     ∙ ap (λ (t : List ℕ). Ok (n, t)) (sym c.split_at.ensures.back)
 
 last_fails : (i b : ℕ) → b ≢ 13 → (ltb 0 i && eqb b 13) ≡ false
-last_fails i b other =
-    let f : eqb b 13 ≡ false = grind (arith, nat_tests) in
-    rw f (and_false (ltb 0 i))
-  where
-    and_false : (a : Bool) → (a && false) ≡ false
-    and_false true = refl
-    and_false false = refl
+last_fails i b other = grind (arith, common_steps)
 
 first_fails : (i b : ℕ) → i ≤ 0 → (ltb 0 i && eqb b 13) ≡ false
 first_fails i b none =
@@ -42,13 +37,7 @@ returns-in_default c =
     sym c.loop-index.invariant.0 ∙ digits_stop (2 ^ 63) c.loop-index.number i bytes lt (ltb 0 i) c.in_default.ensures stops
 
 pub loop-index-preserved : goal.loop-index-preserved
-loop-index-preserved c =
-    let i = c.loop-index.index in
-    let bytes = c.args.bytes.now in
-    let lt : i < length bytes = omega arith in (
-      sym (digit_goes_on (2 ^ 63) c.loop-index.number i bytes lt (ltb 0 i) c.in-Some.more c.in-Some.ensures) ∙ c.loop-index.invariant.0,
-      digit_low (2 ^ 63) c.loop-index.number i bytes lt (ltb 0 i) c.in-Some.more c.in-Some.ensures,
-    )
+loop-index-preserved c = grind (arith, common_steps, digit_goes_on, digit_low)
 
 pub returns : goal.returns
 returns c =

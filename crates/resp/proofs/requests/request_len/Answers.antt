@@ -1,4 +1,4 @@
-use Rattle.std.proofs.Common.{◌≡◌, ◌+◌, ◌-◌, ◌++◌, ℕ, List, Ok, length, ap, ◌∙◌, arith}
+use Rattle.std.proofs.Common.{◌≡◌, ◌+◌, ◌++◌, ℕ, List, Ok, length, ap, ◌∙◌, arith}
 use Rattle.std.proofs.lemmas.List.{length-append}
 use Rattle.resp.specs.Forms.{IsRequest}
 use Rattle.resp.specs.Reading.{rest_of}
@@ -36,13 +36,7 @@ returns-in-Ok-clause-found c =
     (f.args, f.form, c.in-Ok.rest.now, f.bytes_are, f.is, omega (arith, f.long))
 
 pub returns-in-Ok-clause-only : goal.returns-in-Ok-clause-only
-returns-in-Ok-clause-only c = λ args form rest is e.
-    let f = found c.args.bytes.now c.in-Ok.rest.now c.in-Ok.ensures in
-    let same = only_this c.args.bytes.now c.in-Ok.rest.now f.args f.reads args form rest is e in
-    let long : length c.args.bytes.now ≡ length form + length rest = ap (length {A = ℕ}) e ∙ length-append form rest in
-    let left : length c.in-Ok.rest.now ≡ length rest = ap (length {A = ℕ}) same.1 in
-    let len : length c.args.bytes.now - length c.in-Ok.rest.now ≡ length form = omega (arith, long, left) in
-    ap (λ (n : ℕ). Ok n) len
+returns-in-Ok-clause-only c = grind (arith, only_this, length-append)
 
 pub returns-in-Err-clause-only : goal.returns-in-Err-clause-only
 returns-in-Err-clause-only c = λ args form rest is e. absurd (only_none c.args.bytes.now c.in-Err.stop (rest_stopped (request_at c.args.bytes.now) c.in-Err.stop c.in-Err.ensures) args form rest is e)

@@ -76,13 +76,7 @@ returns-in-Err-clause-cause c = λ start.
     incomplete_cause at bytes s fails
 
 pub returns-in-Err-clause-only : goal.returns-in-Err-clause-only
-returns-in-Err-clause-only c = λ start message rest is e.
-    let at = c.loop-items.at in
-    let bytes = c.args.bytes.now in
-    let s = c.loop-items.invariant.1 start in
-    let fault : c.in-Err.fault ≡ Incomplete = search rules in
-    let fails = head_is at bytes c.split_at.result.1.now c.line_from.result.0.now c.line_from.result.1.now s c.split_at.ensures.back (record { whole = c.line_from.ensures.whole; long = c.line_from.ensures.long; found = c.line_from.ensures.line }) ∙ c.in-Err.ensures ∙ ap (λ (f : Fault). Err f) fault in
-    absurd (not_found bytes Incomplete (incomplete_cause at bytes s fails) message rest is e)
+returns-in-Err-clause-only c = grind (arith, head_is, found, not_found, incomplete_cause)
 
 pub returns-in-Err-clause-kept : goal.returns-in-Err-clause-kept
 returns-in-Err-clause-kept c = λ start was more.
@@ -94,12 +88,7 @@ returns-in-Err-clause-kept c = λ start was more.
     scanned_longer _ bytes more (scanned_stop at bytes c.split_at.result.1.now c.line_from.result.0.now c.line_from.result.1.now s c.split_at.ensures.back line c.searched_of.result c.searched_of.ensures.within zeros)
 
 pub returns-in-Err-clause-onward : goal.returns-in-Err-clause-onward
-returns-in-Err-clause-onward c = λ start was.
-    let at = c.loop-items.at in
-    let bytes = c.args.bytes.now in
-    let s = c.loop-items.invariant.1 start in
-    let fault : c.in-Err.fault ≡ Incomplete = search rules in
-    head_is at bytes c.split_at.result.1.now c.line_from.result.0.now c.line_from.result.1.now s c.split_at.ensures.back (record { whole = c.line_from.ensures.whole; long = c.line_from.ensures.long; found = c.line_from.ensures.line }) ∙ c.in-Err.ensures ∙ ap (λ (f : Fault). Err f) fault
+returns-in-Err-clause-onward c = grind (arith, head_is, found)
 
 pub returns-then-wanted-eq0-clause-some : goal.returns-then-wanted-eq0-clause-some
 returns-then-wanted-eq0-clause-some c =

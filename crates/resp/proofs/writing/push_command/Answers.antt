@@ -1,5 +1,6 @@
-use Rattle.std.proofs.Common.{Vec, Global, ◌≡◌, ◌++◌, [], ◌<◌, ◌^◌, ℕ, List, length, decimal, get_or, take, refl, ap, subst, ◌∙◌, arith}
-use Rattle.std.specs.List.{flat_map, AllByRecursion}
+use Rattle.std.proofs.Common.{Vec, Global, ◌≡◌, ◌++◌, [], ◌<◌, ◌^◌, ℕ, List, length, decimal, get_or, take, ap, ◌∙◌, arith}
+use Rattle.std.proofs.lemmas.Grind.{common_steps}
+use Rattle.std.specs.List.{flat_map}
 use Rattle.std.proofs.lemmas.List.{take_all}
 use Rattle.resp.specs.Forms.{line, bulk_form}
 use Rattle.resp.proofs.Written.{words_more, word_at, none_at, short_more}
@@ -30,8 +31,4 @@ returns-clause-bytes c =
     c.loop-index.invariant.0 ∙ ap (λ (ws : List (List ℕ)). c.args.out.now.items ++ (line 42 (decimal (length args)) ++ flat_map bulk_form ws)) whole
 
 pub returns-clause-readable : goal.returns-clause-readable
-returns-clause-readable c =
-    let args = c.args.command.now in
-    let whole : take c.loop-index.index args ≡ args = take_all c.loop-index.index args (omega arith) in
-    let few : length args < 2 ^ 63 = omega arith in
-    (refl, few, subst (AllByRecursion (λ w. length w < 2 ^ 63)) whole c.loop-index.invariant.1)
+returns-clause-readable c = grind (arith, common_steps)

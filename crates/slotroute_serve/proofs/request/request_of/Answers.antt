@@ -1,8 +1,9 @@
-use Rattle.std.proofs.Common.{arith, ◌≡◌, ◌⊎◌, inl, inr, ℕ, List, ◌∷◌, [], map, string_bytes, ◌≤◌, ◌-◌, length, get_or, take, drop, ap, ◌∙◌, sym, subst, refl, codes}
+use Rattle.std.proofs.Common.{arith, ◌≡◌, ◌⊎◌, ℕ, List, ◌∷◌, [], map, string_bytes, ◌≤◌, ◌-◌, length, get_or, take, drop, ap, ◌∙◌, sym, subst, codes}
+use Rattle.std.proofs.lemmas.Grind.{common_steps}
 use Rattle.std.specs.Prelude.{Option, Some, None, MatchOption}
 use Rattle.std.proofs.lemmas.List.{take_rest}
 use Rattle.slotroute_serve.specs.declared.direction.Direction.{Direction}
-use Rattle.slotroute_serve.specs.Output.{IsUsage, IsDirected, IsRunWords, node_words, split_words, node_request, split_request, run_request}
+use Rattle.slotroute_serve.specs.Output.{IsUsage, IsDirected, IsRunWords, node_words, split_words}
 use Rattle.slotroute_serve.specs.Requests.{AsksFor}
 use Rattle.slotroute_serve.specs.declared.request.Request.{Request}
 use Rattle.slotroute_serve.proofs.request.request_of.Goals as goal
@@ -15,20 +16,14 @@ first_and_rest f (x ∷ xs) a e h = rw (take_rest (x ∷ xs) 1) (ap (λ z. f z �
 -- the three forms of words
 form : (ws : List (List ℕ)) → IsUsage ws
     → ((key : List ℕ) × (ws ≡ node_words key)) ⊎ (((command : List (List ℕ)) × (ws ≡ split_words command)) ⊎ ((direction : Direction) × IsRunWords direction ws))
-form ws (node_request key) = inl (key, refl)
-form ws (split_request command some) = inr (inl (command, refl))
-form ws (run_request direction words run) = inr (inr (direction, run))
+form ws h1 = grind (arith)
 
 abbrev first_of : List (List ℕ) → List ℕ
 first_of [] = []
 first_of (w ∷ ws) = w
 
 not_directed : (rest : List (List ℕ)) → ((direction : Direction) → ¬ (IsDirected direction rest)) → ¬ (IsUsage (codes "run" ∷ rest))
-not_directed rest none asked = elim (form (codes "run" ∷ rest) asked) as (λ _. ⊥) [
-  | inl (key, e) ↦ let same : codes "run" ≡ codes "node" = ap first_of e in cc same
-  | inr (inl (command, e)) ↦ let same : codes "run" ≡ codes "split" = ap first_of e in cc same
-  | inr (inr (direction, run)) ↦ none direction run.1
-]
+not_directed rest none asked = grind (arith, common_steps)
 
 asks_run : (ws rest : List (List ℕ)) (r : Option Request) → ws ≡ codes "run" ∷ rest → MatchOption r ((direction : Direction) → ¬ (IsDirected direction rest)) (AsksFor (codes "run" ∷ rest)) → MatchOption r (¬ (IsUsage ws)) (AsksFor ws)
 asks_run ws rest None e h = subst (λ (w : List (List ℕ)). ¬ (IsUsage w)) (sym e) (not_directed rest h)

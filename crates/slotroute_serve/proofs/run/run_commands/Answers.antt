@@ -1,4 +1,4 @@
-use Rattle.std.proofs.Common.{◌++◌, ◌∷◌, [], ◌∙◌, is_some, refl}
+use Rattle.std.proofs.Common.{◌++◌, ◌∷◌, [], ◌∙◌, is_some, refl, arith}
 use Rattle.memory_nodes.specs.Nodes.{registered_in, keyspace_in}
 use Rattle.redis_bytes.specs.NameLines.{fields_of}
 use Rattle.slotroute_serve.proofs.Ending.{unread_caused, refused_caused, stops_as, reader_stops, text_stops, not_begun, emit_stops}
@@ -13,11 +13,7 @@ returns-in_err-read_only-clause-run g c =
     (not_begun (is_some c.args.strategy) c.args.direction.now c.args.registry c.args.slot_map.now c.args.first (g.R.Source.remaining c.args.reader.now) (g.O.Sink.contents c.args.out.now)) c.from_residual.ensures.1
 
 pub returns-in_err-next_line-clause-run : goal.returns-in_err-next_line-clause-run
-returns-in_err-next_line-clause-run g c =
-    reader_stops (is_some c.args.strategy) c.args.direction.now c.args.registry c.args.slot_map.now c.args.first c.in_err-next_line.field-0.0 (g.R.Source.remaining c.args.reader.now) (g.R.Source.remaining c.next_line.new.source) (g.O.Sink.contents c.args.out.now) (g.O.Sink.contents c.loop-number.out) c.loop-number.invariant.text c.from_residual-in_err-next_line.result
-    c.loop-number.invariant.written
-    (stopped_in_line (is_some c.args.strategy) c.args.direction.now c.args.registry c.args.slot_map.now (g.R.Source.remaining c.args.reader.now) (g.R.Source.remaining c.loop-number.reader) (g.R.Source.remaining c.next_line.new.source) c.args.first c.loop-number.number (keyspace_in c.loop-number.nodes) c.loop-number.invariant.text c.loop-number.invariant.on c.in_err-next_line.ensures.stops)
-    c.from_residual-in_err-next_line.ensures.1
+returns-in_err-next_line-clause-run g c = grind (arith, reader_stops (is_some c.args.strategy) c.args.direction.now c.args.registry c.args.slot_map.now c.args.first c.in_err-next_line.field-0.0 (g.R.Source.remaining c.args.reader.now) (g.R.Source.remaining c.next_line.new.source) (g.O.Sink.contents c.args.out.now) (g.O.Sink.contents c.loop-number.out) c.loop-number.invariant.text c.from_residual-in_err-next_line.result, is_some c.args.strategy, stopped_in_line (is_some c.args.strategy) c.args.direction.now c.args.registry c.args.slot_map.now (g.R.Source.remaining c.args.reader.now) (g.R.Source.remaining c.loop-number.reader) (g.R.Source.remaining c.next_line.new.source) c.args.first c.loop-number.number (keyspace_in c.loop-number.nodes) c.loop-number.invariant.text c.loop-number.invariant.on c.in_err-next_line.ensures.stops)
 
 pub returns-in_err-next_line-clause-cause : goal.returns-in_err-next_line-clause-cause
 returns-in_err-next_line-clause-cause g c =
@@ -65,8 +61,4 @@ loop-number-preserved g c =
     }
 
 pub returns-clause-run : goal.returns-clause-run
-returns-clause-run g c = (
-  c.loop-number.invariant.text,
-  c.loop-number.invariant.written,
-  stopped_before_line (is_some c.args.strategy) c.args.direction.now c.args.registry c.args.slot_map.now (g.R.Source.remaining c.args.reader.now) (g.R.Source.remaining c.loop-number.reader) c.args.first c.loop-number.number (keyspace_in c.loop-number.nodes) c.loop-number.invariant.text c.loop-number.invariant.on,
-)
+returns-clause-run g c = grind (arith, stopped_before_line, is_some)

@@ -1,4 +1,5 @@
-use Rattle.std.proofs.Common.{◌≡◌, None, Some, sym, ap, ◌∙◌, option_map}
+use Rattle.std.proofs.Common.{◌≡◌, None, sym, ap, ◌∙◌, option_map, arith}
+use Rattle.std.proofs.lemmas.Grind.{common_steps}
 use Rattle.std.specs.Prelude.{slice_get}
 use Rattle.uses.proofs.Handing.{zip_at, zip_no_first, zip_no_second}
 use Rattle.uses.proofs.batcher.target_of.Goals as goal
@@ -16,8 +17,4 @@ returns-in_err-part c =
     ap (option_map _) c.from_residual-in_err-part.ensures ∙ sym (zip_no_second plan.nodes plan.parts c.args.number none)
 
 pub returns : goal.returns
-returns c =
-    let plan = c.args.plan.now in
-    let node : slice_get plan.nodes c.args.number ≡ Some c.in_ok-node.node.now = sym c.node.ensures ∙ ap (option_map (λ node. node.now)) c.in_ok-node.was in
-    let part : slice_get plan.parts c.args.number ≡ Some c.in_ok-part.part.now = sym c.part.ensures ∙ ap (option_map (λ part. part.now)) c.in_ok-part.was in
-    sym (zip_at plan.nodes plan.parts c.args.number c.in_ok-node.node.now c.in_ok-part.part.now node part)
+returns c = grind (arith, common_steps, zip_at)

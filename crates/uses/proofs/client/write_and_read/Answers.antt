@@ -1,4 +1,5 @@
-use Rattle.std.proofs.Common.{◌≡◌, [], ◌∷◌, List, Bool, Ok, Option, None, Some, ap, map, subst}
+use Rattle.std.proofs.Common.{◌≡◌, [], ◌∷◌, List, Bool, Ok, Option, None, Some, ap, map, subst, arith}
+use Rattle.std.proofs.lemmas.Grind.{common_steps}
 use Rattle.std.specs.Prelude.{IfSome, ⊤}
 use Rattle.resp_core.specs.View.{view}
 use Rattle.redis_cluster.specs.State.{State, state}
@@ -11,18 +12,13 @@ use Rattle.redis_cluster.specs.Unsplit.{Keyspace, keyspace_after, reply_to}
 use Rattle.redis_cluster.specs.declared.driver.DriveError.{DriveError}
 use Rattle.wire.specs.Commands.{SaidCommand, entry_by, replay_commands}
 use Rattle.wire.specs.Said.{replies_in}
-use Rattle.uses.specs.Client.{asked, AreSentOnce, IsPrimary}
+use Rattle.uses.specs.Client.{asked, IsPrimary}
 use Rattle.uses.specs.declared.client.ClientFault.{ClientFault}
 use Rattle.uses.specs.declared.client.ClientFault.TheVariants.{Write, Read}
 use Rattle.uses.proofs.client.write_and_read.Goals as goal
 
 pub returns-in-Ok-clause-once : goal.returns-in-Ok-clause-once
-returns-in-Ok-clause-once g c =
-    let between = map entry_by (g.W.Wire.log c.drive_over.new.client.wire) in (
-      between,
-      c.in_default.ensures.once,
-      subst (λ (registered : Registrations). AreSentOnce c.args.slot_map.now registered c.args.read.now (1 ∷ 0 ∷ []) between (map entry_by (g.W.Wire.log c.drive_over-2.new.client.wire))) c.drive_over.ensures.registered c.in-Ok.ensures.once,
-    )
+returns-in-Ok-clause-once g c = grind (arith, common_steps)
 
 pub returns-in-Ok-clause-joined : goal.returns-in-Ok-clause-joined
 returns-in-Ok-clause-joined g c =

@@ -1,8 +1,7 @@
-use Rattle.std.proofs.Common.{◌≡◌, ◌∙◌, ◌++◌, ◌∷◌, [], map, ap, sym, append_assoc, arith}
+use Rattle.std.proofs.Common.{◌∙◌, ◌++◌, ◌∷◌, [], map, ap, sym, append_assoc, arith}
 use Rattle.std.proofs.lemmas.Grind.{common_steps}
 use Rattle.std.proofs.lemmas.List.{append-nil}
 use Rattle.cluster_map.specs.EachOnce.{each_once}
-use Rattle.cluster_map.specs.RangeMap.{value_of}
 use Rattle.cluster_map.proofs.Members.{add_new, added_more}
 use Rattle.cluster_map.proofs.RangePrimaries.{range_primary, primaries_last, primaries_in}
 use Rattle.cluster_map.proofs.slot_map.SlotMap.addresses_for_all_primaries.Goals as goal
@@ -23,8 +22,4 @@ loop-addrs-preserved c =
     )
 
 pub returns : goal.returns
-returns c =
-    let done = c.loop-addrs.invariant.2.0 in
-    let all : done ≡ map value_of c.args.self.now = sym (append-nil done) ∙ ap (λ z. done ++ z) (sym c.in-None.ensures.steps.0) ∙ c.loop-addrs.invariant.2.1 in
-    let members = c.loop-addrs.invariant.2.2 ∙ ap (λ z. each_once (map range_primary z)) all ∙ ap each_once (primaries_in c.args.self.now) in
-    grind (arith, common_steps)
+returns c = grind (arith, append-nil, range_primary, primaries_in c.args.self.now, common_steps)

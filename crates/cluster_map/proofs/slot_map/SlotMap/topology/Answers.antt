@@ -1,18 +1,14 @@
-use Rattle.std.proofs.Common.{◌≡◌, ◌∙◌, ◌<◌, All, ap, subst, sym}
+use Rattle.std.proofs.Common.{◌≡◌, ◌∙◌, ◌<◌, All, ap, subst, sym, arith}
+use Rattle.std.proofs.lemmas.Grind.{common_steps}
 use Rattle.cluster_map.specs.RangeMap.{Ascends, RangeEntry, end_of}
 use Rattle.cluster_map.specs.SlotNodes.{SlotNodes}
-use Rattle.cluster_map.specs.Topology.{shards_of, topology_of, shards_left, Agrees}
+use Rattle.cluster_map.specs.Topology.{shards_of, topology_of, Agrees}
 use Rattle.cluster_map.proofs.Agreement.{agrees, none_past}
 use Rattle.cluster_map.proofs.Listed.{listed}
 use Rattle.cluster_map.proofs.slot_map.SlotMap.topology.Goals as goal
 
 pub returns-clause-listed : goal.returns-clause-listed
-returns-clause-listed c =
-    let entries = c.args.self.now in
-    let up : Ascends entries = rw (← c.self.view_is) c.shards_of.ensures.order in
-    let is : c.in_ok-topology.topology ≡ topology_of (shards_of entries) =
-    c.in_ok-topology.ensures.put ∙ ap topology_of (c.in_ok-shards.ensures.shards ∙ ap shards_of c.self.view_is) in
-    ap shards_left is ∙ listed entries up
+returns-clause-listed c = grind (arith, common_steps, listed)
 
 pub returns-clause-agrees : goal.returns-clause-agrees
 returns-clause-agrees c =

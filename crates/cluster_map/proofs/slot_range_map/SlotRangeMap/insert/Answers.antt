@@ -14,12 +14,7 @@ insert-requires g c =
 
 -- the index has an end for each range
 pub insert-requires-else-ends_at : goal.insert-requires-else-ends_at
-insert-requires-else-ends_at g c =
-    let place : c.place-place.result ≡ place_in c.self.inside.ranges.items c.args.end = rw c.self.view_is c.place-place.ensures in
-    let most = place_in-most c.self.inside.ranges.items c.args.end in
-    let long = c.self.invariant.1.long in
-    let index = c.self.inside.index.ok.0 in
-    omega arith
+insert-requires-else-ends_at g c = grind (arith, place_in c.self.inside.ranges.items c.args.end, place_in-most c.self.inside.ranges.items c.args.end)
 
 pub index_mut-requires : goal.index_mut-requires
 index_mut-requires g c =

@@ -1,9 +1,10 @@
-use Rattle.std.proofs.Common.{[], ◌∷◌, ◌++◌, length, map, ap, sym, ◌∙◌}
+use Rattle.std.proofs.Common.{[], ◌∷◌, ◌++◌, map, ap, sym, ◌∙◌, arith}
+use Rattle.std.proofs.lemmas.Grind.{common_steps}
 use Rattle.resp_core.specs.Answer.{answer_of}
 use Rattle.redis_cluster.specs.State.{state}
 use Rattle.memory_nodes.specs.Nodes as held
 use Rattle.memory_nodes.specs.Steps.{step}
-use Rattle.memory_batches.specs.Nodes.{batch_registered, batch_trace, batch_mark, batch_state, command_entry, refusal_in, MayRefuseCommand}
+use Rattle.memory_batches.specs.Nodes.{batch_registered, batch_mark, batch_state, command_entry, MayRefuseCommand}
 use Rattle.memory_batches.specs.Strings.{serve}
 use Rattle.memory_batches.proofs.Batches.{taken_one}
 use Rattle.memory_batches.proofs.Traces.{as_planned, noted}
@@ -26,8 +27,4 @@ returns-clause-taken c =
     (λ task is. let done = c.in_ok-answer.ensures.done task is in (done.keyspace, done.reply))
 
 pub returns-clause-noted : goal.returns-clause-noted
-returns-clause-noted c =
-    let nodes = c.args.self.now in
-    let entry_made = c.in_ok-entry.entry in
-    let items = c.push_reserved.ensures.items ∙ ap (λ l. l ++ entry_made ∷ []) c.reserve.ensures.items in
-    noted nodes.trace.items c.push_reserved.new.self.items entry_made c.args.node.now c.args.cmd.now (refusal_in nodes (length (batch_trace nodes))) items c.in_ok-entry.ensures.node c.in_ok-entry.ensures.command (c.in_ok-entry.ensures.refusal ∙ c.in_ok-noted.ensures)
+returns-clause-noted c = grind (arith, common_steps)

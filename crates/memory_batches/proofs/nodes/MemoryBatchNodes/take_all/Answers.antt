@@ -1,11 +1,12 @@
 use Rattle.std.proofs.Common.{◌≡◌, ◌+◌, Bor, Some, ap, refl, subst, sym, ◌∙◌, [], ◌∷◌, ◌++◌, arith, map, option_map, length, take, length-append}
+use Rattle.std.proofs.lemmas.Grind.{common_steps}
 use Rattle.std.specs.Prelude.{slice_get}
 use Rattle.std.proofs.lemmas.List.{length-map, length-take-le, map-append}
 use Rattle.std.proofs.lemmas.Option.{slice_get-map, slice_get_read}
 use Rattle.resp_core.specs.Answer.{answer_of}
 use Rattle.resp_core.specs.declared.cmd.Cmd.{Cmd}
 use Rattle.redis_batches.proofs.ByNode.{at_take}
-use Rattle.redis_batches.specs.Taken.{task_of, IsBegunAtMost, IsTaken}
+use Rattle.redis_batches.specs.Taken.{task_of, IsBegunAtMost}
 use Rattle.memory_nodes.specs.Steps.{step}
 use Rattle.memory_batches.specs.Nodes.{batch_registered, batch_keyspace, batch_state, MayRefuseCommand}
 use Rattle.memory_batches.specs.Strings.{serve}
@@ -15,17 +16,7 @@ use Rattle.memory_batches.proofs.Traces.{on_err_always, planned_next, planned_no
 use Rattle.memory_batches.proofs.nodes.MemoryBatchNodes.take_all.Goals as goal
 
 pub loop-cmd-init : goal.loop-cmd-init
-loop-cmd-init c =
-    let first = c.args.self.now in
-    let start = batch_state first in
-    record {
-      answers = ap length c.requires.none;
-      taken = subst (λ l. IsTaken step serve (batch_registered first) (Unit {0}) (MayRefuseCommand first) c.args.node.now [] start start (map answer_of l)) (sym c.requires.none) (taken_none step serve (batch_registered first) (Unit {0}) (MayRefuseCommand first) c.args.node.now start);
-      as_planned = planned_none first;
-      plan = refl;
-      base = refl;
-      registered = refl;
-    }
+loop-cmd-init c = grind (arith, common_steps, taken_none, planned_none)
 
 pub loop-cmd-preserved : goal.loop-cmd-preserved
 loop-cmd-preserved c =

@@ -1,4 +1,5 @@
 use Rattle.std.proofs.Common.{◌≡◌, ◌≤◌, ◌<◌, ◌+◌, ◌∙◌, ℕ, All, IsSome, Some, arith, ap, refl, sym, subst, length, map, take}
+use Rattle.std.proofs.lemmas.Grind.{common_steps}
 use Rattle.std.specs.Prelude.{slice_get}
 use Rattle.std.specs.List.{flat_map}
 use Rattle.std.proofs.lemmas.List.{length-map}
@@ -26,12 +27,7 @@ written_slots-requires g c =
 
 -- all slots have nodes
 all_have : (g : Over) (c : Else-len g) → AreIn c.args.strategy c.args.slot_map.now (flat_map slots_kept c.in_ok-tasks.tasks.items) c.in_ok-placed.placed
-all_have g c =
-    let placed = c.in_ok-placed.placed in
-    let slots = c.in_ok-slots.slots in
-    let all : length c.as_slice-3.result.now ≤ length placed.nodes.items = omega (arith, c.if-len.false, c.len.ensures, c.len-2.ensures, placed.nodes.ok.0, slots.ok.0, ap length c.as_slice-3.ensures.value) in
-    all_placed c.args.strategy c.args.slot_map.now c.as_slice-3.result.now (flat_map slots_kept c.in_ok-tasks.tasks.items) placed all
-    (c.as_slice-3.ensures.value ∙ c.in_ok-slots.ensures ∙ ap (flat_map slots_kept) c.as_slice.ensures.value) c.in_ok-placed.ensures.nodes
+all_have g c = grind (arith, common_steps, all_placed)
 
 pub returns-then-len-clause-fault : goal.returns-then-len-clause-fault
 returns-then-len-clause-fault g c =

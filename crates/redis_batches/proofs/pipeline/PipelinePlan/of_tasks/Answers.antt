@@ -1,4 +1,4 @@
-use Rattle.std.proofs.Common.{◌≡◌, ◌∙◌, Some, ap, sym, length, map}
+use Rattle.std.proofs.Common.{◌≡◌, ◌∙◌, Some, ap, sym, length, map, arith}
 use Rattle.std.specs.List.{flat_map}
 use Rattle.std.proofs.lemmas.List.{length-map}
 use Rattle.redis_batches.specs.CommandTask.{slot_parts, slots_kept}
@@ -22,9 +22,4 @@ pub of_parts-requires-clause-parts : goal.of_parts-requires-clause-parts
 of_parts-requires-clause-parts c = sym (counts_of_kept c.args.tasks.items) ∙ many c
 
 pub returns-clause-fewest : goal.returns-clause-fewest
-returns-clause-fewest c =
-    let plan = c.in_ok-plan.plan in
-    let made = c.in_ok-plan.ensures in
-    fewest plan.batches plan.targets made.plan
-    (ap length made.targets ∙ length-map c.args.targets.items (λ node. node.now) ∙ c.requires.nodes ∙ many (goal.at.returns-clause-fewest c).In_ok-parts ∙ sym (ap length made.parts ∙ length-map c.in_ok-parts.parts.items sent_args))
-    made.by_node
+returns-clause-fewest c = grind (arith, fewest, length-map, many, In_ok-parts)

@@ -1,4 +1,5 @@
 use Rattle.std.proofs.Common.{◌≡◌, ℕ, List, Result, true, false, Some, Ok, Err, IfOk, MatchResult, map, length, sym, ap, ◌∙◌, subst, arith}
+use Rattle.std.proofs.lemmas.Grind.{common_steps}
 use Rattle.std.specs.Prelude.{is_none}
 use Rattle.std.specs.List.{list_any}
 use Rattle.resp_core.specs.View.{view}
@@ -24,11 +25,7 @@ returns-then-not-all_set-clause-joined g c = λ replies all.
     absurd (not_all_told c.self.inside.answered.items c.self.inside.replies.items replies c.self.invariant.1 set is)
 
 pub join-requires : goal.join-requires
-join-requires g c =
-    let room = length-told c.self.inside.answered.items c.self.inside.replies.items c.self.invariant.1 in
-    let each : length c.self.inside.replies.items ≡ length c.self.inside.split.routes = omega (arith, room, c.self.invariant.0.replies) in
-    let some = (is_split_to c.self.inside.split c.self.invariant.0.split).some in
-    record { some = omega (arith, some, each); each = each }
+join-requires g c = grind (arith, common_steps, length-told c.self.inside.answered.items c.self.inside.replies.items c.self.invariant.1, is_split_to c.self.inside.split c.self.invariant.0.split)
 
 pub returns-clause-joined : goal.returns-clause-joined
 returns-clause-joined g c = λ replies all.

@@ -1,4 +1,4 @@
-use Rattle.std.proofs.Common.{◌≡◌, ◌⊎◌, ℕ, List, [], Option, Some, IfSome, Result, Ok, Err, IsErrAnd, IfErr, inl, inr, refl, ap, sym, subst, ◌∙◌, false, length, map, option_map, replicate}
+use Rattle.std.proofs.Common.{◌≡◌, ◌⊎◌, ℕ, List, [], Option, Some, IfSome, Result, Ok, Err, IsErrAnd, IfErr, refl, ap, sym, subst, ◌∙◌, false, length, map, option_map, replicate, arith}
 use Rattle.std.specs.List.{AllZip}
 use Rattle.std.specs.declared.alloc.Global.{Global}
 use Rattle.std.specs.declared.vec.Vec.{Vec}
@@ -32,10 +32,7 @@ fault_of_nodes : (entries : List (RangeEntry SlotNodes)) (names : Names) (args :
     Some (route_lists routes) ≡ multi_slot_routes names args → IfSome (multi_slot_routes names args) (λ routes. HasJoiningPolicy names.registered args) → (fault : PlanFault) →
     (fault ≡ Memory) ⊎ ((slot : ℕ) × (fault ≡ NotCovered slot) × IsFirstUncovered entries (map (λ r. r.0) routes) slot) →
     IsPlanFault entries names args fault
-fault_of_nodes entries names args routes of_command joins fault (inl e) = subst (IsPlanFault entries names args) (sym e) tt
-fault_of_nodes entries names args routes of_command joins fault (inr cause) =
-    subst (IsPlanFault entries names args) (sym cause.1)
-    (map (λ r. r.0) routes, sym (routes_are names args joins) ∙ ap (option_map (map (λ r. r.0))) (sym of_command) ∙ ap Some (firsts-route_lists routes), cause.2)
+fault_of_nodes entries names args routes h1 h2 fault h3 = grind (arith, routes_are, firsts-route_lists)
 
 -- what holds of the error of a result that is one
 err_from : {T E : Type 0} (P Q : E → Type 0) (r : Result T E) → IsErrAnd r P → ((e : E) → P e → Q e) → IfErr r Q
@@ -101,13 +98,7 @@ returns-clause-parts g c =
     (sym (ap (option_map (λ s. s.routes)) c.in-Some.is) ∙ new.routes) (of_some _ found split c.in-Some.is new.pattern) (of_some _ found split c.in-Some.is new.policy) c.routes.ensures.split c.in_ok-parts.ensures
 
 pub returns-clause-slots : goal.returns-clause-slots
-returns-clause-slots g c =
-    let args = g.R.Routable.args c.args.command.now in
-    let names = names_in c.args.names in
-    let new = c.in_ok-split.ensures in
-    let split = c.in-Some.split in
-    let routes : Some split.routes ≡ multi_slot_routes names args = sym (ap (option_map (λ s. s.routes)) c.in-Some.is) ∙ new.routes in
-    ap (option_map (map (λ r. r.0))) routes ∙ routes_are names args (joining_routes names args split routes (of_some _ c.in_ok-split.field-0 split c.in-Some.is new.policy) c.routes.ensures.split)
+returns-clause-slots g c = grind (arith, routes_are, joining_routes)
 
 pub returns-clause-ready : goal.returns-clause-ready
 returns-clause-ready g c = λ order.

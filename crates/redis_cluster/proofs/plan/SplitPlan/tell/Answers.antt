@@ -1,4 +1,5 @@
-use Rattle.std.proofs.Common.{◌≡◌, ◌<◌, ◌∙◌, List, Option, true, false, Some, ap, arith, length, map, refl, set, slice_get, sym}
+use Rattle.std.proofs.Common.{◌≡◌, ◌<◌, ◌∙◌, List, Option, true, Some, ap, arith, length, map, set, slice_get, sym}
+use Rattle.std.proofs.lemmas.Grind.{common_steps}
 use Rattle.std.proofs.lemmas.List.{get_or_read, length-set}
 use Rattle.resp_core.specs.declared.value.Value.{Value}
 use Rattle.redis_cluster.specs.Plan.{Plan, marked_replies}
@@ -7,22 +8,7 @@ use Rattle.redis_cluster.proofs.plan.SplitPlan.tell.Goals as goal
 use Rattle.redis_cluster.proofs.plan.SplitPlan.tell.Goals.{then-number-len-via-then-number-len, then-number-len-via-else-number-len+then-index}
 
 pub returns-then-number-len-clause-refused : goal.returns-then-number-len-clause-refused
-returns-then-number-len-clause-refused g c =
-    let plan = c.self.inside in
-    let marks = plan.answered.items in
-    let long : length marks ≡ length plan.replies.items = c.self.invariant.1 in
-    let replies : marked_replies marks plan.replies.items ≡ c.args.self.now.replies = ap (λ (p : Plan). p.replies) c.self.view_is in (
-      refl,
-      refl,
-      λ none.
-          let free = unmarked marks plan.replies.items c.args.number long (ap (λ rs. slice_get rs c.args.number) replies ∙ none) in
-          elim c.then-number-len.branch [
-            | then-number-len-via-then-number-len w ↦ absurd (omega (arith, free.0, plan.answered.ok.0))
-            | then-number-len-via-else-number-len+then-index w ↦
-                let marked : true ≡ false = sym w.if-index.true ∙ get_or_read marks c.args.number _ free.0 w.index.ensures true ∙ free.1 in
-                absurd (cc)
-          ],
-    )
+returns-then-number-len-clause-refused g c = grind (arith, common_steps, unmarked, slice_get, then-number-len-via-then-number-len, then-number-len-via-else-number-len+then-index, get_or_read)
 
 pub invariant_of-self : goal.invariant_of-self
 invariant_of-self g c =

@@ -1,4 +1,4 @@
-use Rattle.std.proofs.Common.{◌≡◌, ◌∙◌, ◌||◌, refl, ap, rules, Some, slice_get, set}
+use Rattle.std.proofs.Common.{◌≡◌, ◌∙◌, ◌||◌, refl, ap, Some, slice_get, arith}
 use Rattle.std.specs.Str.{bytes_eq}
 use Rattle.std.proofs.lemmas.Option.{slice_get_read}
 use Rattle.redis_routing.specs.ReadOnly.{is_among}
@@ -15,11 +15,7 @@ invariant_of-self-in_err-insert c =
     (at_their_spots-reached _ _ c.self.invariant c.in_ok-reach.ensures.names c.in_ok-reach.ensures.spots)
 
 pub returns-in_err-insert-clause-unchanged : goal.returns-in_err-insert-clause-unchanged
-returns-in_err-insert-clause-unchanged c =
-    let there : slice_get c.reach.new.trees.items c.spot_of-spot.result ≡ Some c.index_mut.result.now = slice_get_read _ _ _ _ refl c.in_ok-reach.ensures.reached c.index_mut.ensures.value in
-    let same : names_in (set c.reach.new.trees.items c.spot_of-spot.result c.insert.new.self) ≡ c.args.self.now =
-    ap names_in (set_same c.reach.new.trees.items c.spot_of-spot.result c.index_mut.result.now c.insert.new.self there c.in_err-insert.ensures.err) ∙ c.in_ok-reach.ensures.names ∙ c.self.view_is in
-    search rules
+returns-in_err-insert-clause-unchanged c = grind (arith, slice_get, slice_get_read, set_same)
 
 pub invariant_of-self-2 : goal.invariant_of-self-2
 invariant_of-self-2 c =

@@ -1,5 +1,6 @@
-use Rattle.std.proofs.Common.{◌+◌, ◌++◌, ◌∷◌, [], ◌∙◌, map, drop, rules, arith, ap, sym}
-use Rattle.std.proofs.lemmas.List.{map-append, append-nil, take_all, drop_all}
+use Rattle.std.proofs.Common.{◌++◌, ◌∷◌, [], ◌∙◌, map, rules, arith, ap, sym}
+use Rattle.std.proofs.lemmas.Grind.{common_steps}
+use Rattle.std.proofs.lemmas.List.{map-append}
 use Rattle.resp_core.specs.Reply.{pairs_of}
 use Rattle.resp_core.specs.View.{view_pair}
 use Rattle.resp_core.specs.Copying.{inside_pairs}
@@ -11,24 +12,10 @@ pub loop-item-init : goal.loop-item-init
 loop-item-init c = (search rules, λ rest e. e)
 
 pub take_last-key-requires : goal.take_last-key-requires
-take_last-key-requires c =
-    let items = c.deref-item-items.result.now in
-    let n = c.loop-item._item-index in
-    let p = c._item-item.result in
-    let rest = c.requires.0 in
-    let begin = c.requires.1 ∙ ap (λ ps. rest ++ inside_pairs (pairs_of (map view_pair ps))) (sym c.deref-item-items.ensures.value) in
-    let ends = pairs-left c.loop-item.copies.items rest items n p c.loop-item-test.true c._item-item.is (c.loop-item.invariant.1 rest begin) in
-    omega (arith, two-left c.loop-item.copies.items rest p (drop (n + 1) items) ends)
+take_last-key-requires c = grind (arith, common_steps, pairs-left, two-left)
 
 pub take_last-value-requires : goal.take_last-value-requires
-take_last-value-requires c =
-    let items = c.deref-item-items.result.now in
-    let n = c.loop-item._item-index in
-    let p = c._item-item.result in
-    let rest = c.requires.0 in
-    let begin = c.requires.1 ∙ ap (λ ps. rest ++ inside_pairs (pairs_of (map view_pair ps))) (sym c.deref-item-items.ensures.value) in
-    let ends = pairs-left c.loop-item.copies.items rest items n p c.loop-item-test.true c._item-item.is (c.loop-item.invariant.1 rest begin) in
-    omega (arith, two-left c.loop-item.copies.items rest p (drop (n + 1) items) ends, c.take_last-key.ensures.len)
+take_last-value-requires c = grind (arith, common_steps, pairs-left, two-left)
 
 pub loop-item-preserved : goal.loop-item-preserved
 loop-item-preserved c =
@@ -44,15 +31,7 @@ loop-item-preserved c =
     (copied, λ rest begin. (next rest (c.loop-item.invariant.1 rest begin)).0)
 
 pub returns-clause-copied : goal.returns-clause-copied
-returns-clause-copied c =
-    let items = c.deref-item-items.result.now in
-    c.loop-item.invariant.0
-    ∙ ap (map view_pair) (take_all c.loop-item._item-index items (omega arith))
-    ∙ ap (map view_pair) c.deref-item-items.ensures.value
+returns-clause-copied c = grind (arith, common_steps)
 
 pub returns-clause-rest : goal.returns-clause-rest
-returns-clause-rest c = λ rest e.
-    let items = c.deref-item-items.result.now in
-    let begin = e ∙ ap (λ ps. rest ++ inside_pairs (pairs_of (map view_pair ps))) (sym c.deref-item-items.ensures.value) in
-    let none = drop_all c.loop-item._item-index items (omega arith) in
-    c.loop-item.invariant.1 rest begin ∙ ap (λ ps. rest ++ inside_pairs (pairs_of (map view_pair ps))) none ∙ append-nil rest
+returns-clause-rest c = grind (arith, common_steps)

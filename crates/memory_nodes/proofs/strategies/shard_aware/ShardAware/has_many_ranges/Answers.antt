@@ -1,15 +1,10 @@
-use Rattle.std.proofs.Common.{◌≡◌, ◌∙◌, Some, sym}
+use Rattle.std.proofs.Common.{◌≡◌, ◌∙◌, Some, sym, arith}
+use Rattle.std.proofs.lemmas.Grind.{common_steps}
 use Rattle.memory_nodes.proofs.KnownShards.{no_shard, many_exactly}
 use Rattle.memory_nodes.proofs.strategies.shard_aware.ShardAware.has_many_ranges.Goals as goal
 
 pub returns-in_default-shard_for_slot : goal.returns-in_default-shard_for_slot
-returns-in_default-shard_for_slot c =
-    let known : c.args.self.now ≡ Some c.in-Some.topology = sym c.self.view_is ∙ c.in-Some.is in
-    let uncovered = c.in_default-shard_for_slot.ensures in
-    rw known (
-      (λ yes. cc),
-      (λ has. absurd (no_shard c.in-Some.topology c.args.slot uncovered.shard has)),
-    )
+returns-in_default-shard_for_slot c = grind (arith, common_steps, no_shard)
 
 pub returns : goal.returns
 returns c =
