@@ -124,7 +124,7 @@ primary_is_listed e rs r h = by_test (list_any (same_address (entry_primary r)) 
     let k : true ≡ false = sym (same_refl (entry_primary r)) ∙ f in cc)
 
 look : (rs : List (RangeEntry SlotNodes)) → Ascends rs → (e : ℕ) → find e (insert_steps [] (shard_entries (primary_shards rs))) ≡ find e (map with_primary rs)
-look rs up e = grind (arith, common_steps, find-insert_steps, primary_shards, by_option, find, last_none, one_ends, primaries, find-with_primary, last_one, primary_is_listed)
+look rs up e = grind (arith, common_steps, find-insert_steps, by_option, last_none, one_ends, find-with_primary, last_one, primary_is_listed)
 
 EndsAfter-with_primary : (e : ℕ) (rs : List (RangeEntry SlotNodes)) → EndsAfter e rs → EndsAfter e (map with_primary rs)
 EndsAfter-with_primary e [] h = tt
@@ -136,7 +136,7 @@ Ascends-with_primary (r ∷ rs) up = (EndsAfter-with_primary r.1 rs up.0, Ascend
 
 -- the primary of an element by its place
 flat : (ss : List ShardNodes) (a : Option ℕ) (b : Option SlotNodes) → option_map (slice_get (map primary_of ss)) a ≡ option_map (λ n. Some n.primary) b → option_map primary_of (option_and_then (slice_get ss) a) ≡ option_map (λ n. n.primary) b
-flat ss a b h1 = grind (arith, slice_get, slice_get-map)
+flat ss a b h1 = grind (arith, slice_get-map)
 
 -- the ranges of the shards are those of the map, each with its primary
 pub resolved : (rs : List (RangeEntry SlotNodes)) → Ascends rs → map (with_value (slice_get (map primary_of (shards_of rs)))) (insert_steps [] (place_entries 0 (shards_of rs))) ≡ map with_primary rs

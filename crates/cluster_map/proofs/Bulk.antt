@@ -109,4 +109,4 @@ apart end (e ∷ es) = grind (arith, common_steps, apart end es)
 
 pub length-insert_entries : {V : Type 0} (es more : List (RangeEntry V)) → length (insert_entries es more) ≤ length es + length more
 length-insert_entries es [] = omega arith
-length-insert_entries es (x ∷ xs) = grind (arith, common_steps, apart, length-append, ending_below, ending_above, length-insert_entries (insert_entry es x.0 x.1 x.2) xs)
+length-insert_entries es (x ∷ xs) = grind (arith, common_steps, apart, length-append, length-insert_entries (insert_entry es x.0 x.1 x.2) xs)

@@ -31,7 +31,7 @@ squeeze k zero b known few test =
     let past : nat_lt (k + 0) b ≡ false = sym (test 0 few) ∙ le-ltb 0 0 (omega arith) in
     let most : b ≤ k + 0 = grind (arith, nat_tests) in
     omega arith
-squeeze k (suc c) b known few test = grind (arith, common_steps, nat_lt (k + suc c) b, nat_lt (k + c) b, le-ltb (suc c) (suc c) (omega arith), lt-ltb c (suc c) (omega arith), nat_tests)
+squeeze k (suc c) b known few test = grind (arith, common_steps, le-ltb (suc c) (suc c) (omega arith), lt-ltb c (suc c) (omega arith), nat_tests)
 
 -- where not all of 16 ends are below, those before them and of them are all that are
 pub below_near : (end k : ℕ) (ends window : List ℕ) → IsNonDecreasing ends → k ≤ below end ends → k + 16 ≤ length ends → window ≡ take 16 (drop k ends) → below end window < 16 → k + below end window ≡ below end ends

@@ -75,7 +75,7 @@ place_in-counts : {V : Type 0} (e : RangeEntry V) (es : List (RangeEntry V)) (en
 place_in-counts e es end below = ap length (cond-true _ _ _ (lt-ltb (end_of e) end below))
 
 place_in-first : {V : Type 0} (e : RangeEntry V) (es : List (RangeEntry V)) (end : ℕ) → Ascends (e ∷ es) → end ≤ end_of e → place_in (e ∷ es) end ≡ 0
-place_in-first e es end ascends from = grind (arith, common_steps, cond-false, le-ltb, ending_below, ending_below-none)
+place_in-first e es end ascends from = grind (arith, common_steps, cond-false, le-ltb, ending_below-none)
 
 -- so it is as many as there are ends below it
 below-ends : {V : Type 0} (es : List (RangeEntry V)) (end : ℕ) → below end (map end_of es) ≡ place_in es end
@@ -93,7 +93,7 @@ place_found es seen end place found same = found ∙ ap (below end) same ∙ bel
 -- the entries from that place on are those that end there or after it
 pub ending_from-place : {V : Type 0} (es : List (RangeEntry V)) (end : ℕ) → Ascends es → drop (place_in es end) es ≡ ending_from end es
 ending_from-place [] end ascends = refl
-ending_from-place (e ∷ es) end ascends = grind (arith, common_steps, cases_lt, place_in-counts, ending_from-skips, place_in-first, ending_from-keeps, ending_from, ending_from-place es end ascends.1)
+ending_from-place (e ∷ es) end ascends = grind (arith, common_steps, cases_lt, place_in-counts, ending_from-skips, place_in-first, ending_from-keeps, ending_from-place es end ascends.1)
 
 pub cons_cond : {X : Type 0} (b : Bool) (x : X) (xs ys : List X) → x ∷ cond b xs ys ≡ cond b (x ∷ xs) (x ∷ ys)
 cons_cond true x xs ys = refl
@@ -104,7 +104,7 @@ pub insert_entry-at : {V : Type 0} (es : List (RangeEntry V)) (start end : ℕ) 
     → insert_entry es start end value
     ≡ cond (ends_at end (slice_get es (place_in es end))) (set es (place_in es end) (start, end, value)) (insert es (place_in es end) (start, end, value))
 insert_entry-at [] start end value ascends = refl
-insert_entry-at (e ∷ es) start end value ascends = grind (arith, common_steps, cases_order, nat_tests, place_in-first, insert_entry-place, insert_entry-front, place_in-counts, insert_entry-later, cons_cond, slice_get, insert_entry-at es start end value ascends.1)
+insert_entry-at (e ∷ es) start end value ascends = grind (arith, common_steps, cases_order, nat_tests, place_in-first, insert_entry-place, insert_entry-front, place_in-counts, insert_entry-later, cons_cond, insert_entry-at es start end value ascends.1)
 
 -- the same, from what a search and a test said of the entries
 pub set-is_insert_entry : {V : Type 0} (es seen : List (RangeEntry V)) (place start end : ℕ) (value : V) → Ascends es → seen ≡ es → place ≡ place_in es end → ends_at end (slice_get seen place) ≡ true → set es place (start, end, value) ≡ insert_entry es start end value

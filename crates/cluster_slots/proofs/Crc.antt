@@ -29,7 +29,7 @@ pub bring_down_lt : (r b : ℕ) → r < 2 ^ 16 → b < 2 → bring_down r b < 2 
 bring_down_lt r b h k = grind (arith, common_steps, cases_lt (2 * r + b) 65536, bring_down_low, bring_down_high, xor_lt 16 (2 * r + b - 65536) 4129 (omega arith) (lit< tt))
 
 pub double_xor : (a b : ℕ) → bit_xor (2 * a) (2 * b) ≡ 2 * bit_xor a b
-double_xor a b = grind (arith, common_steps, bit_xor a b * 2 ^ 1, bit_xor 0 0, bit_xor a b, xor_block 1 a b 0 0 (lit< tt) (lit< tt))
+double_xor a b = grind (arith, common_steps, xor_block 1 a b 0 0 (lit< tt) (lit< tt))
 
 doubled_bit : (q b : ℕ) → b < 2 → bit_xor (2 * q) b ≡ 2 * q + b
 doubled_bit q b k = let e : 2 * q ≡ q * 2 ^ 1 = omega arith in ap (λ x. bit_xor x b) e ∙ xor_shifted q 1 b k ∙ omega arith
@@ -56,14 +56,14 @@ top_top : (q t : ℕ) → q < 32768 → t < 32768 → bit_xor (32768 + q) (32768
 top_top q t h k = xor_block 15 1 1 q t h k ∙ zero-add (bit_xor q t)
 
 xor_top_bottom : (q s : ℕ) → q < 32768 → s < 32768 → bring_down (bit_xor (32768 + q) s) 0 ≡ bit_xor (bring_down (32768 + q) 0) (bring_down s 0)
-xor_top_bottom q s h k = grind (arith, common_steps, top_bottom q s h k, bring_down_top (bit_xor q s) (xor_lt 15 q s h k), bring_down_top q h, bit_xor q s, bit_xor (bring_down (32768 + q) 0), xor_lt 15 q s h k, double_xor q s, swap_right (2 * q) (2 * s) 4129, bring_down_bottom s k)
+xor_top_bottom q s h k = grind (arith, common_steps, top_bottom q s h k, bring_down_top (bit_xor q s) (xor_lt 15 q s h k), bring_down_top q h, xor_lt 15 q s h k, double_xor q s, swap_right (2 * q) (2 * s) 4129, bring_down_bottom s k)
 
 cancel : (a b g : ℕ) → bit_xor (bit_xor a g) (bit_xor b g) ≡ bit_xor a b
 cancel a b g =
     xor_assoc a g (bit_xor b g) ∙ ap (bit_xor a) (ap (bit_xor g) (xor_comm b g) ∙ sym (xor_assoc g g b) ∙ ap (λ x. bit_xor x b) (xor_self g) ∙ xor_zero_l b)
 
 xor_top_top : (q t : ℕ) → q < 32768 → t < 32768 → bring_down (bit_xor (32768 + q) (32768 + t)) 0 ≡ bit_xor (bring_down (32768 + q) 0) (bring_down (32768 + t) 0)
-xor_top_top q t h k = grind (arith, common_steps, top_top q t h k, bring_down_bottom (bit_xor q t) (xor_lt 15 q t h k), bit_xor q t, bit_xor (2 * t) 4129, bit_xor (bring_down (32768 + q) 0), xor_lt 15 q t h k, double_xor q t, cancel (2 * q) (2 * t) 4129, bring_down_top q h, bring_down_top t k)
+xor_top_top q t h k = grind (arith, common_steps, top_top q t h k, bring_down_bottom (bit_xor q t) (xor_lt 15 q t h k), xor_lt 15 q t h k, double_xor q t, cancel (2 * q) (2 * t) 4129, bring_down_top q h, bring_down_top t k)
 
 xor_bottom_bottom : (r s : ℕ) → r < 32768 → s < 32768 → bring_down (bit_xor r s) 0 ≡ bit_xor (bring_down r 0) (bring_down s 0)
 xor_bottom_bottom r s h k =
@@ -163,7 +163,7 @@ bits_lt r (suc n) b h = bits_lt (bring_down r (bit_at b n)) n b (bring_down_lt r
 
 -- n bits at the bottom and m zeros, or m zeros and the n bits at the top
 pub byte_in : (m n r b c : ℕ) → 2 ^ n ≤ 256 → r < 2 ^ 16 → b < 2 ^ n → zeros_down m b ≡ zeros_down n c → c < 2 ^ 16 → zeros_down m (fold bring_down r (low_bits b n)) ≡ zeros_down n (bit_xor (zeros_down m r) c)
-byte_in m n r b c l h k e d = grind (arith, common_steps, mod_low 0 n b k, bits_in n r b l h, bit_xor (zeros_down n r), bit_xor (zeros_down n (zeros_down m r)), zeros_down-xor m (zeros_down n r) b (zeros_down_lt n r h) (omega arith), zeros_down-xor n (zeros_down m r) c (zeros_down_lt m r h) d, zeros_down_lt n r h, zeros_down_lt m r h, zeros_down-swap m n r)
+byte_in m n r b c l h k e d = grind (arith, common_steps, mod_low 0 n b k, bits_in n r b l h, zeros_down-xor m (zeros_down n r) b (zeros_down_lt n r h) (omega arith), zeros_down-xor n (zeros_down m r) c (zeros_down_lt m r h) d, zeros_down_lt n r h, zeros_down_lt m r h, zeros_down-swap m n r)
 
 all_lt : (r : ℕ) (bs : List ℕ) → r < 2 ^ 16 → fold bring_down r (bits_of bs) < 2 ^ 16
 all_lt r [] h = h
@@ -220,7 +220,7 @@ zeros_down-more (suc m) n r = let e : suc (m + n) ≡ suc m + n = omega arith in
 
 -- a byte more, and n zeros
 byte_down : (n c x : ℕ) → c < 2 ^ 16 → x < 2 ^ 8 → zeros_down n (next_register c x) ≡ bit_xor (zeros_down (8 + n) c) (zeros_down (16 + n) x)
-byte_down n c x h k = grind (arith, common_steps, zeros_down-xor 8 c (x * 256) h (omega arith), zeros_down-xor n (zeros_down 8 c) (zeros_down 16 x) (zeros_down_lt 8 c h) (zeros_down_lt 16 x (omega arith)), bit_xor (zeros_down 8 c), bit_xor (zeros_down (8 + n) c), byte_at_top x k, zeros_down_lt 8 c h, zeros_down_lt 16 x (omega arith), zeros_down-more 8 n c, zeros_down-more 16 n x)
+byte_down n c x h k = grind (arith, common_steps, zeros_down-xor 8 c (x * 256) h (omega arith), zeros_down-xor n (zeros_down 8 c) (zeros_down 16 x) (zeros_down_lt 8 c h) (zeros_down_lt 16 x (omega arith)), byte_at_top x k, zeros_down_lt 8 c h, zeros_down_lt 16 x (omega arith), zeros_down-more 8 n c, zeros_down-more 16 n x)
 
 -- the two bytes of the register, before n zeros more than 8
 register_down : (n c : ℕ) → c < 2 ^ 16 → zeros_down (8 + n) c ≡ bit_xor (zeros_down (16 + n) (c / 256 % 256)) (zeros_down (8 + n) (c % 256))

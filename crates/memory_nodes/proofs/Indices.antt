@@ -8,7 +8,7 @@ at_first x xs place is = ap (slice_get (x ∷ xs)) is
 
 pub at_later : {X : Type 0} (x y : X) (xs : List X) (place : ℕ) → ¬ (place ≡ 0) → place < length (x ∷ xs) → slice_get xs ((place - 1) % length xs) ≡ Some y → slice_get (x ∷ xs) place ≡ Some y
 at_later x y xs zero later below there = absurd (later refl)
-at_later x y xs (suc place) later below there = grind (arith, common_steps, mod-eq_of_lt, slice_get)
+at_later x y xs (suc place) later below there = grind (arith, common_steps, mod-eq_of_lt)
 
 pub at_last : {X : Type 0} (y : X) (xs : List X) → 0 < length xs → slice_get xs ((length xs - 1) % length xs) ≡ Some y → slice_get xs (length xs - 1) ≡ Some y
-at_last y xs some there = grind (arith, common_steps, mod-eq_of_lt, slice_get)
+at_last y xs some there = grind (arith, common_steps, mod-eq_of_lt)

@@ -106,7 +106,7 @@ module _ (old new : List (Bor Address)) (node : Bor Address) (before after : BTr
       found_new = updates.0 q ∙ ap (λ (b : Bool). cond b (Some number) (get by_address before q)) equal
 
       new_at : get by_address after q ≡ Some n → slice_get (addresses new) n ≡ Some q.now
-      new_at found = grind (arith, common_steps, same_Some, found_new, at_more, slice_get, last_there, same)
+      new_at found = grind (arith, common_steps, same_Some, found_new, at_more, last_there, same)
 
       new_found : (slice_get (addresses old) n ≡ Some q.now) ⊎ ((n ≡ length old) × (node.now ≡ q.now)) → get by_address after q ≡ Some n
       new_found (inl there) = absurd (none-some n (sym absent ∙ found_alike before node q same ∙ (placed q n).1 there))

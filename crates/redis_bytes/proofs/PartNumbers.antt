@@ -115,7 +115,7 @@ keys_of_list pattern ts list slot is = ap (places pattern) is ∙ places_of_keys
 pub keys_of_route : (pattern : MultiSlotArgPattern) (ts : List KeyTuple) (routes : Routes) (i : ℕ) (r : SlotRoute × Vec ℕ Global) → All (Placed pattern ts) (route_lists routes) → i < length routes → r ≡ get_or routes i r
     → places pattern r.1.items ≡ Some (numbers_of_slot r.0.slot ts)
 keys_of_route pattern ts [] i r placed few is = absurd (omega (arith, few))
-keys_of_route pattern ts (x ∷ routes) zero r placed few is = grind (arith, numbers_of_slot, keys_of_list, All-head)
+keys_of_route pattern ts (x ∷ routes) zero r placed few is = grind (arith, keys_of_list, All-head)
 keys_of_route pattern ts (x ∷ routes) (suc i) r placed few is =
     keys_of_route pattern ts routes i r (All-tail (Placed pattern ts) (x.0, x.1.items) (route_lists routes) placed) (omega (arith, few)) is
 

@@ -25,7 +25,7 @@ sum_step false t n s = refl
 
 sum_after : (q k : List ℕ) (t : ℤ) (ps : List KeyNumber) → sum_at q (joined_after k t ps) ≡ sum_at q ((k, t) ∷ ps)
 sum_after q k t [] = refl
-sum_after q k t (p ∷ ps) = grind (arith, common_steps, by_test, sum_at, sum_step, bytes_eq-Decides, or_zero, sum_after q k (t +ℤ p.1) ps, sum_after q p.0 p.1 ps)
+sum_after q k t (p ∷ ps) = grind (arith, common_steps, by_test, sum_step, bytes_eq-Decides, sum_after q k (t +ℤ p.1) ps, sum_after q p.0 p.1 ps)
 
 -- each key has the same total
 pub sum_joined : (q : List ℕ) (ps : List KeyNumber) → sum_at q (joined ps) ≡ sum_at q ps

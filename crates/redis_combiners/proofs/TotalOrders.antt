@@ -60,7 +60,7 @@ part_kept t d u e = omega (arith, ints)
 
 total_parts : (q : List ℕ) (ps : List KeyNumber) → or_zero (sum_at q ps) +ℤ pos (sum_by (downs q) ps) ≡ pos (sum_by (ups q) ps)
 total_parts q [] = refl
-total_parts q (p ∷ ps) = grind (arith, common_steps, or_zero, sum_at, sum_by-cons, part_step, part_kept, total_parts q ps)
+total_parts q (p ∷ ps) = grind (arith, common_steps, sum_by-cons, part_step, part_kept, total_parts q ps)
 
 same_option : (a b : Option ℤ) → is_some a ≡ is_some b → or_zero a ≡ or_zero b → a ≡ b
 same_option a b h1 h2 = grind (arith)
@@ -81,7 +81,7 @@ total_same q rs others h =
 
 -- the same of pairs
 pub sum_permuted : (q : List ℕ) (ps qs : List KeyNumber) → IsPermutation ps qs → sum_at q qs ≡ sum_at q ps
-sum_permuted q ps qs h = grind (arith, common_steps, same_option, sum_at q qs, sum_at q ps, sum_has q qs, sum_has q ps, list_any-IsPermutation, from_parts (or_zero (sum_at q qs)) (or_zero (sum_at q ps)) (sum_by (downs q) qs) (sum_by (ups q) qs) (sum_by (downs q) ps) (sum_by (ups q) ps) (total_parts q qs) (total_parts q ps), or_zero (sum_at q qs), or_zero (sum_at q ps), total_parts q qs, total_parts q ps, sum_by-IsPermutation (downs q) ps qs h, sum_by-IsPermutation (ups q) ps qs h)
+sum_permuted q ps qs h = grind (arith, common_steps, same_option, sum_has q qs, sum_has q ps, list_any-IsPermutation, from_parts (or_zero (sum_at q qs)) (or_zero (sum_at q ps)) (sum_by (downs q) qs) (sum_by (ups q) qs) (sum_by (downs q) ps) (sum_by (ups q) ps) (total_parts q qs) (total_parts q ps), total_parts q qs, total_parts q ps, sum_by-IsPermutation (downs q) ps qs h, sum_by-IsPermutation (ups q) ps qs h)
 
 length_same : (rs others : List Reply) → IsPermutation rs others → length (flat_map pairs_of_reply others) ≡ length (flat_map pairs_of_reply rs)
 length_same rs others h = length-flat_map pairs_of_reply others ∙ sum_by-IsPermutation (λ r. length (pairs_of_reply r)) rs others h ∙ sym (length-flat_map pairs_of_reply rs)

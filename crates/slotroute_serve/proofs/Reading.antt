@@ -90,7 +90,7 @@ map_read input rest front more e n r =
 
 -- at the end of the input
 pub at_end : (old left : Option (List ℕ)) (made : Made) (number : ℕ) → StillReads old left made number → IfSome left (λ xs. false ≡ nat_lt 0 (length xs)) → IfSome old (λ input. IsMap (leading_lines input) made)
-at_end old left made number h1 h2 = grind (arith, common_steps, ended, true≢false, positive)
+at_end old left made number h1 h2 = grind (arith, common_steps, true≢false, positive)
 
 pub next_at_end : (old left : Option (List ℕ)) (made : Made) (number : ℕ) → StillReads old left made number → IfSome left (λ xs. false ≡ nat_lt 0 (length xs)) → IfSome old (λ input. number + 1 ≡ first_after_map input)
 next_at_end old left made number h1 h2 = grind (arith, common_steps, numbered, true≢false, positive)
