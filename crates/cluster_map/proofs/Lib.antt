@@ -15,5 +15,6 @@ pub mod Groups
 pub mod Inserts
 pub mod Listed
 pub mod NodeSets
+pub mod Numbering
 pub mod RangePrimaries
 pub mod ReplyNodes

@@ -15,6 +15,7 @@ pub mod SlotsReply
 pub mod CandidatePlaces
 pub mod Candidates
 pub mod EachOnce
+pub mod Numbered
 pub mod ReadCandidates
 pub mod RouteNode
 pub mod Shards

@@ -33,6 +33,7 @@ mod node_set;
 
 pub use crate::slot_range::SlotRange;
 pub use addresses::NodeAddresses;
+pub use node_set::number_nodes;
 
 /// The nodes that serve a range of slots: a primary and its replicas.
 #[derive(Debug, Drop)]
@@ -339,9 +340,10 @@ impl SlotMap {
         ensures all { IfOk result (λ found. addresses_behind found.items ≡ primaries_in self.now) }
         ensures order { Ascends self.now }
     {
+        let ranges = self.values();
         let misses = Cell::new(0);
-        let mut seen = NodeSet::for_ranges(alloc, self.slots.len(), &misses)?;
-        for addrs in self.values() {
+        let mut seen = NodeSet::new(alloc, &self.slots, &misses)?;
+        for addrs in ranges {
             seen.insert_full(&addrs.primary)?;
         }
         seen.into_nodes()
@@ -356,9 +358,10 @@ impl SlotMap {
         ensures all { IfOk result (λ found. addresses_behind found.items ≡ all_nodes_in self.now) }
         ensures order { Ascends self.now }
     {
+        let ranges = self.values();
         let misses = Cell::new(0);
-        let mut seen = NodeSet::for_ranges(alloc, self.slots.len(), &misses)?;
-        for addrs in self.values() {
+        let mut seen = NodeSet::new(alloc, &self.slots, &misses)?;
+        for addrs in ranges {
             insert_all(&mut seen, addrs)?;
         }
         seen.into_nodes()

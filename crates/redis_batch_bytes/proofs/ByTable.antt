@@ -7,7 +7,8 @@ use Rattle.std.proofs.lemmas.Option.{get_or_from_slice_get}
 use Rattle.cluster_slots.specs.Address.{Address}
 use Rattle.redis_routing.specs.Registry.{Registrations}
 use Rattle.redis_routing.specs.Split.{Split}
-use Rattle.redis_batches.specs.Grouped.{index_of, places_in}
+use Rattle.cluster_map.specs.Numbered.{index_of}
+use Rattle.redis_batches.specs.Grouped.{places_in}
 use Rattle.redis_batches.specs.CommandTask.{IsTaskFor, slots_kept}
 use Rattle.redis_batches.specs.PipelinePlan.{IsPlanOfTasks, PipelineBatches}
 use Rattle.redis_batches.specs.Tasks.{AreSplitsFor}

@@ -8,7 +8,8 @@ use Rattle.resp_core.proofs.Cases.{by_test}
 use Rattle.cluster_slots.specs.Address.{Address}
 use Rattle.redis_routing.specs.Registry.{Registrations}
 use Rattle.redis_cluster.proofs.Counts.{same_number}
-use Rattle.redis_batches.specs.Grouped.{index_of, places_in}
+use Rattle.cluster_map.specs.Numbered.{index_of}
+use Rattle.redis_batches.specs.Grouped.{places_in}
 use Rattle.redis_batches.specs.PipelinePlan.{IsPlanOfCommands, PipelineBatches, pieces_of}
 use Rattle.redis_batches.specs.Taken.{task_of}
 use Rattle.redis_batch_bytes.specs.Plans.{EachIsSent}

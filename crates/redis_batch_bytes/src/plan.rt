@@ -1,7 +1,7 @@
 ghost use Rattle.std.specs.Prelude.{◌≡◌, ◌≤◌, ◌<◌, List, length, map, take, IfOk, IfErr};
 ghost use Rattle.std.specs.List.{All};
 ghost use Rattle.redis_routing.specs.Registry.{Registrations};
-ghost use Rattle.redis_batches.specs.Grouped.{AreNumbered};
+ghost use Rattle.cluster_map.specs.Numbered.{AreNumbered};
 ghost use Rattle.redis_batches.specs.Placed.{StopsAt};
 ghost use Rattle.redis_bytes.specs.Requests.{Words};
 ghost use Rattle.redis_batch_bytes.specs.Parted.{AreParted, slots_listed};
@@ -68,8 +68,8 @@ fn nodes_by(
         if node == NO_NODE {
             return Ok((nodes, indices));
         }
-        let (index, _) = known.insert_full(node)?;
-        if index == nodes.len() {
+        let (index, is_new) = known.insert_full(node)?;
+        if is_new {
             nodes.push(node)?;
         }
         indices.push(index)?;

@@ -8,7 +8,8 @@ use Rattle.std.proofs.lemmas.List.Elements.{All-nil, All-cons}
 use Rattle.std.proofs.lemmas.Option.{same_Some, slice_get-map, slice_get_within}
 use Rattle.resp_core.proofs.Cases.{by_test}
 use Rattle.cluster_slots.specs.Address.{Address}
-use Rattle.redis_batches.specs.Grouped.{index_of, places_in}
+use Rattle.cluster_map.specs.Numbered.{index_of}
+use Rattle.redis_batches.specs.Grouped.{places_in}
 use Rattle.redis_batches.specs.Plan.{AreFewest, Batches, IsByNode, IsPlan}
 use Rattle.redis_batches.proofs.ByNode.{node_at_index}
 use Rattle.redis_batches.proofs.Entries.{get_there}

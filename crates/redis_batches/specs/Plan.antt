@@ -5,7 +5,8 @@ use Rattle.resp_core.specs.ErrorParts.{ErrorParts}
 use Rattle.resp_core.specs.declared.value.Value.{Value}
 use Rattle.cluster_slots.specs.Address.{Address}
 use Rattle.cluster_map.specs.EachOnce.{each_once}
-use Rattle.redis_batches.specs.Grouped.{AreNumbered, index_of, places_in}
+use Rattle.cluster_map.specs.Numbered.{AreNumbered, index_of}
+use Rattle.redis_batches.specs.Grouped.{places_in}
 
 -- the node of each batch, the numbers of its parts, and whether it has its answers; the parts, and
 -- the answer to each, which is nil until its batch has its answers

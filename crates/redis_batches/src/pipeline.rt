@@ -15,14 +15,14 @@ ghost use Rattle.redis_batches.specs.Tasks.{AreSplitsFor};
 
 use crate::chosen::nodes_of;
 use crate::fault::PipelineFault;
-use crate::grouping::{number_nodes, places_by_number};
+use crate::grouping::places_by_number;
 use crate::part::PartCommand;
 use crate::parts::parts_of;
 use crate::plan::{all_set, no_answers, put_answers, refs_at};
 use crate::reads::written_slots;
 use crate::replies::replies_of;
 use crate::task::{CommandTask, command_of, slots_of, tasks_of};
-use cluster_map::{ReadRoutingStrategy, SlotMap};
+use cluster_map::{ReadRoutingStrategy, SlotMap, number_nodes};
 use cluster_slots::NodeAddress;
 use redis_routing::Names;
 use resp_core::{Cmd, ErrorKind, RedisError, RedisResult, Value};

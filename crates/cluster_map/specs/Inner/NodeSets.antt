@@ -1,21 +1,22 @@
--- The nodes of a set, and where they are found.
-use Rattle.std.specs.Prelude.{ℕ, List, map, Option, Some, None, if◌then◌else◌}
-use Rattle.std.specs.List.{list_any, position_or_len}
-use Rattle.std.specs.Map.{lookup}
-use Rattle.std.specs.Ordering.{is_eq}
-use denote.Ref.{Bor}
-use Rattle.cluster_slots.specs.Address.{Address, address_cmp, same_address}
+-- The nodes of a set, and the hash that finds them.
+use Rattle.std.specs.Prelude.{ℕ, List, map}
+use Rattle.std.specs.Hash.DefaultHasher as sip
+use Rattle.std.specs.Hash.FoldHasher as folding
+use Rattle.cluster_slots.specs.Address.{Address}
 use Rattle.cluster_map.specs.declared.slot_map.node_set.counted.Counted.{Counted}
+use Rattle.cluster_map.specs.declared.slot_map.node_set.node_hasher.NodeHasher.{NodeHasher}
+use Rattle.cluster_map.specs.declared.slot_map.node_set.node_hasher.NodeHasher.TheVariants.{Fold, Sip}
 
 -- the addresses of counted nodes
 abbrev pub addresses_counted : List Counted → List Address
 addresses_counted counted = map (λ c. c.node.now) counted
 
--- the index that a tree has for an address
-abbrev pub index_in : List (Bor Address × ℕ) → Address → Option ℕ
-index_in indices a = lookup (λ node. is_eq (address_cmp a node.now)) indices
+-- a hash after some bytes
+abbrev pub write_to : NodeHasher → List ℕ → NodeHasher
+write_to (Fold state) bytes = Fold (folding.write state bytes)
+write_to (Sip state) bytes = Sip (sip.write state bytes)
 
--- the index of an address, if it is listed
-abbrev pub index_of : List Address → Address → Option ℕ
-index_of nodes a =
-    if list_any (same_address a) nodes then Some (position_or_len (same_address a) nodes) else None
+-- its number
+abbrev pub hash_of : NodeHasher → ℕ
+hash_of (Fold state) = folding.finish state
+hash_of (Sip state) = sip.finish state

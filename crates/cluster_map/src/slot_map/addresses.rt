@@ -7,6 +7,7 @@ ghost use Rattle.cluster_map.specs.Targets.{left_in};
 
 use crate::slot_map::SlotAddrs;
 use crate::slot_map::node_set::NodeSet;
+use crate::slot_range_map::SlotRangeMap;
 use cluster_slots::NodeAddress;
 use std::alloc::AllocError;
 
@@ -51,7 +52,7 @@ impl<'a> IntoIterator for &'a SlotAddrs {
 
 /// Inserts the nodes of a range.
 pub(crate) fn insert_all<'a>(
-    seen: &mut NodeSet<'a, '_>,
+    seen: &mut NodeSet<'a, '_, &SlotRangeMap<SlotAddrs>>,
     addrs: &'a SlotAddrs,
 ) -> Result<(), AllocError>
     ensures { OnOk result ((before : List Address) → seen.old ≡ each_once before

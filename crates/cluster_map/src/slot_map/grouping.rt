@@ -20,10 +20,11 @@ pub(crate) fn shards_of(
     ensures ends { IfOk result (λ shards. All (λ e. end_of e < 2 ^ 16) ranges.now) }
     ensures order { Ascends ranges.now }
 {
+    let entries = ranges.iter();
     let misses = Cell::new(0);
-    let mut seen = NodeSet::for_ranges(alloc, ranges.len(), &misses)?;
+    let mut seen = NodeSet::new(alloc, ranges, &misses)?;
     let mut shards = Vec::new(alloc);
-    for (start, end, addrs) in ranges.iter() {
+    for (start, end, addrs) in entries {
         add_range(alloc, &mut seen, &mut shards, start, end, addrs)?;
     }
     Ok(shards)
@@ -33,7 +34,7 @@ pub(crate) fn shards_of(
 /// in the set, each at the index of its shard.
 fn add_range<'a>(
     alloc: Global,
-    seen: &mut NodeSet<'a, '_>,
+    seen: &mut NodeSet<'a, '_, &SlotRangeMap<SlotAddrs>>,
     shards: &mut Vec<Shard>,
     start: u16,
     end: u16,

@@ -5,64 +5,63 @@ ghost use Rattle.cluster_map.specs.Targets.{addresses_behind};
 ghost use Rattle.cluster_map.specs.Inner.NodeSets.{addresses_counted};
 
 use crate::slot_map::node_set::counted::Counted;
-use crate::slot_map::node_set::ordered::OrderedNodes;
+use crate::slot_map::node_set::node_hasher::NodeHasher;
 use cluster_slots::NodeAddress;
 use indexmap::IndexSet;
 use std::alloc::{AllocError, Global};
 use std::cell::Cell;
 use std::marker::Model;
+use std::mem::replace;
 
 mod counted;
-mod ordered;
+mod node_hasher;
+mod numbering;
+mod source;
 
-/// The most nodes that a look-up by hash may compare in vain.
-const MOST_MISSES: usize = 16;
+pub use numbering::number_nodes;
+pub(crate) use source::Source;
 
-/// The most nodes that are found by their hash. A look-up also passes nodes that it does not
-/// compare, and this bounds their number.
-const MOST_HASHED: usize = 32768;
+/// How often look-ups may compare nodes in vain before the quick hash counts as slow.
+const FIRST_MISSES: usize = 16;
 
-/// The most nodes that room is made for. Many ranges often have few nodes.
-const MOST_ROOM: usize = 2048;
+/// For how many look-ups they may do so once more. Mostly one look-up of forty does.
+const LOOK_UPS_A_MISS: usize = 16;
 
 /// Addresses of nodes, each once, in order of first appearance.
 ///
-/// Nodes are found by their hash. Hosts can be chosen so that their hashes are equal, and then a
-/// look-up compares many nodes. After the first look-up that compares too many, a tree finds the
-/// nodes.
+/// Nodes are found by a quick hash. Hosts can be chosen so that it is equal, and then look-ups
+/// compare many nodes. After too many, another hash finds them. It depends on all nodes of the
+/// source.
 #[derive(Drop)]
-pub(crate) struct NodeSet<'a, 'c> {
-    hashed: IndexSet<Counted<'a, 'c>>,
+pub(crate) struct NodeSet<'a, 'c, S> {
+    source: S,
+    nodes: IndexSet<Counted<'a, 'c>, NodeHasher>,
+    look_ups: usize,
     misses: &'c Cell<usize>,
-    // all nodes, if a tree finds them
-    ordered: Option<OrderedNodes<'a>>,
 }
 
-impl<'a, 'c> Model for NodeSet<'a, 'c> {
-    ghost use Rattle.std.specs.Prelude.{List, unwrap_or};
+impl<'a, 'c, S> Model for NodeSet<'a, 'c, S> {
+    ghost use Rattle.std.specs.Prelude.{List};
     ghost use Rattle.cluster_slots.specs.Address.{Address};
     ghost use Rattle.cluster_map.specs.Inner.NodeSets.{addresses_counted};
 
     ghost Value = { List Address };
 
-    ghost view = { λ s. unwrap_or s.ordered (addresses_counted s.hashed.keys) };
+    ghost view = { λ s. addresses_counted s.nodes.keys };
 }
 
-impl<'a, 'c> NodeSet<'a, 'c> {
-    /// An empty set, with room for the nodes of `count` ranges. `misses` counts the nodes that one
-    /// look-up compares in vain.
-    pub(crate) fn for_ranges(
-        alloc: Global,
-        count: usize,
-        misses: &'c Cell<usize>,
-    ) -> Result<Self, AllocError>
+impl<'a, 'c, S: Source> NodeSet<'a, 'c, S> {
+    /// An empty set for nodes of a source. `misses` counts the nodes that look-ups compare in
+    /// vain.
+    pub(crate) fn new(alloc: Global, source: S, misses: &'c Cell<usize>) -> Result<Self, AllocError>
         ensures { IfOk result (λ nodes. nodes ≡ []) }
     {
-        let room = count.saturating_mul(2).min(MOST_ROOM);
+        let nodes = IndexSet::with_capacity_and_hasher(alloc, source.room(), NodeHasher::quick())?;
         Ok(NodeSet {
-            hashed: IndexSet::with_capacity(alloc, room)?,
+            source,
+            nodes,
+            look_ups: 0,
             misses,
-            ordered: None,
         })
     }
 
@@ -74,45 +73,48 @@ impl<'a, 'c> NodeSet<'a, 'c> {
         ensures index { IfOk result (λ r. r.0 ≡ position_or_len (same_address node.now) self.old) }
         ensures is_new { IfOk result (λ r. r.1 ≡ not (list_any (same_address node.now) self.old)) }
     {
-        if let Some(ordered) = &mut self.ordered {
-            return ordered.insert_full(node);
-        }
-        self.misses.set(0);
-        let (index, is_new) = self.hashed.insert_full(Counted::new(node, self.misses))?;
+        self.look_ups = self.look_ups.saturating_add(1);
+        let (index, is_new) = self.nodes.insert_full(Counted::new(node, self.misses))?;
         if self.is_slow() {
-            self.ordered = Some(OrderedNodes::of(&self.hashed)?);
+            self.rehash()?;
         }
         Ok((index, is_new))
     }
 
-    /// Whether look-ups by hash take too long.
+    /// Whether look-ups by the quick hash compare too many nodes in vain.
     fn is_slow(&self) -> bool {
-        self.misses.get() > MOST_MISSES || self.hashed.len() > MOST_HASHED
+        let most = FIRST_MISSES.saturating_add(self.look_ups / LOOK_UPS_A_MISS);
+        self.misses.get() > most && self.nodes.hasher().is_quick()
+    }
+
+    /// Finds the nodes by the hash that depends on all of them from now on.
+    fn rehash(&mut self) -> Result<(), AllocError>
+        ensures { OnOk result (self.new ≡ self.old) }
+    {
+        let (alloc, len) = (*self.nodes.allocator(), self.nodes.len());
+        let hasher = NodeHasher::after_all(&self.source);
+        let nodes = IndexSet::with_capacity_and_hasher(alloc, len, hasher)?;
+        let mut quick = replace(&mut self.nodes, nodes);
+        self.nodes.append(&mut quick)
     }
 
     /// The nodes, in order of first appearance.
     pub(crate) fn into_nodes(self) -> Result<Vec<&'a NodeAddress>, AllocError>
         ensures { IfOk result (λ nodes. addresses_behind nodes.items ≡ self.entry) }
     {
-        let NodeSet {
-            hashed,
-            ordered,
-            ..
-        } = self;
-        match ordered {
-            Some(ordered) => Ok(ordered.into_nodes()),
-            None => nodes_of(&hashed),
-        }
+        nodes_of(&self.nodes)
     }
 }
 
-/// The nodes that are found by their hash.
-fn nodes_of<'a>(hashed: &IndexSet<Counted<'a, '_>>) -> Result<Vec<&'a NodeAddress>, AllocError>
+/// The nodes that are counted.
+fn nodes_of<'a>(
+    counted_nodes: &IndexSet<Counted<'a, '_>, NodeHasher>,
+) -> Result<Vec<&'a NodeAddress>, AllocError>
     ensures { IfOk result (λ nodes. addresses_behind nodes.items
-        ≡ addresses_counted hashed.now.keys) }
+        ≡ addresses_counted counted_nodes.now.keys) }
 {
-    let mut nodes = Vec::with_capacity(*hashed.allocator(), hashed.len())?;
-    for counted in hashed.as_slice() {
+    let mut nodes = Vec::with_capacity(*counted_nodes.allocator(), counted_nodes.len())?;
+    for counted in counted_nodes.as_slice() {
         nodes.push(counted.node())?;
     }
     Ok(nodes)

@@ -1,16 +1,15 @@
-use Rattle.std.proofs.Common.{◌≡◌, ◌∙◌, ◌<◌, ◌+◌, ◌∷◌, ◌++◌, [], All, ap, arith, get_or, length, map, subst, sym, take}
+use Rattle.std.proofs.Common.{◌≡◌, ◌∙◌, ◌<◌, ◌+◌, ◌∷◌, ◌++◌, [], All, ap, arith, get_or, length, map, not, subst, sym, take}
+use Rattle.std.specs.Prelude.{nat_eq}
+use Rattle.std.specs.List.{list_any, position_or_len}
+use Rattle.indexmap.specs.IndexSet.{insert_key}
 use Rattle.std.proofs.lemmas.List.{get_or-map, length-map, length_push, map_push, take_more}
 use Rattle.std.proofs.lemmas.List.Elements.{All-append, All-cons, All-nil}
-use Rattle.std.specs.Prelude.{nat_eq}
-use Rattle.std.specs.List.{position_or_len}
-use Rattle.indexmap.specs.IndexSet.{insert_key}
-use Rattle.redis_batches.specs.Grouped.{AreNumbered}
 use Rattle.redis_batches.proofs.Placing.{stops_behind}
 use Rattle.redis_batch_bytes.specs.Parted.{slots_listed}
 use Rattle.redis_batch_bytes.specs.Numbered.{HasNoNumber, HasNumber, address_of_number, node_numbered, number_at}
-use Rattle.redis_batch_bytes.proofs.Numbering.{known_one, most, new_one}
+use Rattle.redis_batch_bytes.proofs.Numbering.{number_next}
 use Rattle.redis_batch_bytes.proofs.plan.nodes_by.Goals as goal
-use Rattle.redis_batch_bytes.proofs.plan.nodes_by.Goals.{then-index-len+in_ok-push, else-index-len}
+use Rattle.redis_batch_bytes.proofs.plan.nodes_by.Goals.{then-is_new+in_ok-push, else-is_new}
 
 pub loop-part-preserved : goal.loop-part-preserved
 loop-part-preserved c =
@@ -28,24 +27,18 @@ loop-part-preserved c =
     let nodes : map (node_numbered numbers) (take (i + 1) slots) ≡ map (node_numbered numbers) (take i slots) ++ address_of_number number ∷ [] =
     ap (map (node_numbered numbers)) front ∙ map_push (node_numbered numbers) (take i slots) slot ∙ ap (λ n. map (node_numbered numbers) (take i slots) ++ address_of_number n ∷ []) (sym own) in
     let found = c.loop-part.nodes.items in
-    let index = c.in_ok-index.index in
-    let more = c.push-in-loop-part.new.self.items in
-    let index_at : index ≡ position_or_len (nat_eq number) found = c.in_ok-index.ensures.index ∙ ap (position_or_len (nat_eq number)) before.known in
+    let index_at : c.in_ok-index.index ≡ position_or_len (nat_eq number) found = c.in_ok-index.ensures.index ∙ ap (position_or_len (nat_eq number)) before.known in
     let keys_are = c.in_ok-index.ensures.keys ∙ ap (λ ks. insert_key nat_eq ks number) before.known in
-    let step : (c.insert_full.new.self.keys ≡ c.if-index-len.nodes.items) × AreNumbered (map (node_numbered numbers) (take i slots) ++ address_of_number number ∷ []) (map address_of_number c.if-index-len.nodes.items) more =
-    elim c.if-index-len.branch [
-      | then-index-len+in_ok-push w ↦
-          new_one (map (node_numbered numbers) (take i slots)) found c.loop-part.indices.items more c.insert_full.new.self.keys number index before.numbered index_at c.in_ok-push-2.ensures.items keys_are
-          c.if-index-len.nodes.items (ap (λ v. v.items) w.nodes-is ∙ w.in_ok-push.ensures.items) (omega (arith, w.if-index-len.true, c.len.ensures, c.loop-part.nodes.ok.0))
-      | else-index-len w ↦
-          rw w.nodes-is (known_one (map (node_numbered numbers) (take i slots)) found c.loop-part.indices.items more c.insert_full.new.self.keys number index before.numbered index_at c.in_ok-push-2.ensures.items keys_are
-          (omega (arith, w.if-index-len.false, c.len.ensures, c.loop-part.nodes.ok.0, most (map (node_numbered numbers) (take i slots)) found c.loop-part.indices.items more c.insert_full.new.self.keys number index before.numbered index_at c.in_ok-push-2.ensures.items keys_are)))
+    let is_new : c.in_ok-index.is_new ≡ not (list_any (nat_eq number) found) = c.in_ok-index.ensures.added ∙ ap (λ ks. not (list_any (nat_eq number) ks)) before.known in
+    let grown : c.if-is_new.nodes.items ≡ insert_key nat_eq found number = elim c.if-is_new.branch [
+      | then-is_new+in_ok-push w ↦ ap (λ v. v.items) w.nodes-is ∙ w.in_ok-push.ensures.items ∙ grind (arith, is_new, w.if-is_new.true)
+      | else-is_new w ↦ ap (λ v. v.items) w.nodes-is ∙ grind (arith, is_new, w.if-is_new.false)
     ] in
     record {
-      count = ap length c.in_ok-push-2.ensures.items ∙ length_push c.loop-part.indices.items index ∙ ap (λ n. n + 1) before.count;
-      known = step.0;
+      count = ap length c.in_ok-push-2.ensures.items ∙ length_push c.loop-part.indices.items c.in_ok-index.index ∙ ap (λ n. n + 1) before.count;
+      known = keys_are ∙ sym grown;
       have = all;
-      numbered = subst (λ ns. AreNumbered ns (map address_of_number c.if-index-len.nodes.items) more) (sym nodes) step.1;
+      numbered = rw (nodes, grown, c.in_ok-push-2.ensures.items, index_at) (number_next (map (node_numbered numbers) (take i slots)) found c.loop-part.indices.items number before.numbered);
     }
 
 pub returns-clause-stops : goal.returns-clause-stops

@@ -1,5 +1,5 @@
 use Rattle.std.proofs.Common.{◌≡◌, All, length, map, take}
-use Rattle.redis_batches.specs.Grouped.{AreNumbered}
+use Rattle.cluster_map.specs.Numbered.{AreNumbered}
 use Rattle.redis_batch_bytes.specs.Parted.{slots_listed}
 use Rattle.redis_batch_bytes.specs.Numbered.{HasNumber, address_of_number, node_numbered}
 use Rattle.redis_batch_bytes.proofs.plan.nodes_by.Given as goal

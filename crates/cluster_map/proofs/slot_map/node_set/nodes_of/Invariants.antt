@@ -6,4 +6,4 @@ use Rattle.cluster_map.proofs.slot_map.node_set.nodes_of.Given as goal
 -- the nodes so far
 abbrev pub invariant-loop-counted : goal.invariant-loop-counted
 invariant-loop-counted l =
-    addresses_behind l.nodes.items ≡ addresses_counted (take l.counted-index l.hashed.keys)
+    addresses_behind l.nodes.items ≡ addresses_counted (take l.counted-index l.counted_nodes.keys)

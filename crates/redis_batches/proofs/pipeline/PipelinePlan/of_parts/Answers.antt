@@ -1,7 +1,8 @@
 use Rattle.std.proofs.Common.{◌≡◌, ◌<◌, ◌∙◌, Some, All, ap, sym, subst, arith, length, map}
 use Rattle.std.proofs.lemmas.List.{length-map}
 use Rattle.std.proofs.lemmas.Option.{same_Some, slice_get_within}
-use Rattle.redis_batches.specs.Grouped.{index_of, places_in}
+use Rattle.cluster_map.specs.Numbered.{index_of}
+use Rattle.redis_batches.specs.Grouped.{places_in}
 use Rattle.redis_batches.proofs.ByNode.{places_within}
 use Rattle.redis_batches.specs.PartArguments.{sent_args}
 use Rattle.redis_batches.specs.Plan.{IsPlan}

@@ -1,0 +1,82 @@
+ghost use Rattle.std.specs.Prelude.{◌≡◌, IfOk, IfSome};
+ghost use Rattle.cluster_map.specs.Targets.{addresses_behind};
+ghost use Rattle.cluster_map.specs.Numbered.{AreNumbered, index_of};
+
+use crate::slot_map::node_set::NodeSet;
+use cluster_slots::NodeAddress;
+use std::alloc::{AllocError, Global};
+use std::cell::Cell;
+
+/// The most nodes that are found by comparing each.
+const MOST_COMPARED: usize = 8;
+
+/// These nodes, each once by first appearance, and for each given node its number among them. Of
+/// the nodes `n2`, `n1`, `n2` these are `n2` and `n1`, and 0, 1, 0.
+///
+/// # Errors
+///
+/// If memory runs out.
+pub fn number_nodes<'a>(
+    alloc: Global,
+    nodes: &[&'a NodeAddress],
+) -> Result<(Vec<&'a NodeAddress>, Vec<usize>), AllocError>
+    ensures numbered { IfOk result (λ found. AreNumbered (addresses_behind nodes.now)
+        (addresses_behind found.0.items) found.1.items) }
+{
+    match number_few(alloc, nodes)? {
+        Some(found) => Ok(found),
+        None => number_many(alloc, nodes),
+    }
+}
+
+/// The same, unless more than a few nodes differ.
+fn number_few<'a>(
+    alloc: Global,
+    nodes: &[&'a NodeAddress],
+) -> Result<Option<(Vec<&'a NodeAddress>, Vec<usize>)>, AllocError>
+    ensures { IfOk result (λ few. IfSome few (λ found. AreNumbered (addresses_behind nodes.now)
+        (addresses_behind found.0.items) found.1.items)) }
+{
+    let mut found: Vec<&'a NodeAddress> = Vec::new(alloc);
+    let mut numbers = Vec::with_capacity(alloc, nodes.len())?;
+    for node in nodes {
+        let number = index_in(&found, *node);
+        if number == found.len() {
+            if number == MOST_COMPARED {
+                return Ok(None);
+            }
+            found.push(*node)?;
+        }
+        numbers.push(number)?;
+    }
+    Ok(Some((found, numbers)))
+}
+
+/// The index of a node among others, or how many they are.
+fn index_in(found: &[&NodeAddress], node: &NodeAddress) -> usize
+    ensures { result ≡ index_of node.now (addresses_behind found.now) }
+{
+    let mut index = 0;
+    while index < found.len() && *node != *found[index] {
+        index += 1;
+    }
+    index
+}
+
+/// The same for any number of nodes.
+fn number_many<'a>(
+    alloc: Global,
+    nodes: &[&'a NodeAddress],
+) -> Result<(Vec<&'a NodeAddress>, Vec<usize>), AllocError>
+    ensures numbered { IfOk result (λ found. AreNumbered (addresses_behind nodes.now)
+        (addresses_behind found.0.items) found.1.items) }
+{
+    let misses = Cell::new(0);
+    let mut seen = NodeSet::new(alloc, nodes, &misses)?;
+    let mut numbers = Vec::with_capacity(alloc, nodes.len())?;
+    for node in nodes {
+        let (number, _) = seen.insert_full(*node)?;
+        numbers.push(number)?;
+    }
+    Ok((seen.into_nodes()?, numbers))
+}
