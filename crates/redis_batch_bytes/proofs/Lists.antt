@@ -6,13 +6,12 @@ use Rattle.std.specs.List.{concat}
 use Rattle.std.proofs.lemmas.List.{length-append, length-map, take_more}
 use Rattle.std.proofs.lemmas.List.Concat.{flat_map-append}
 use Rattle.std.proofs.lemmas.List.Folds.{concat-append}
-use Rattle.std.proofs.lemmas.Option.{get_or_from_slice_get, same_Some, slice_get-map, slice_get_read}
+use Rattle.std.proofs.lemmas.Option.{get_or_from_slice_get, same_Some, slice_get-get_or, slice_get-map, slice_get_read}
 use Rattle.resp_core.specs.Answer.{Answer, answer_of}
 use Rattle.resp_core.specs.ErrorParts.{ErrorParts}
 use Rattle.resp_core.specs.declared.value.Value.{Value}
 use Rattle.redis_cluster.specs.Orders.{in_order}
 use Rattle.redis_cluster.proofs.Orders.{get-in_order, in_order-append}
-use Rattle.redis_batches.proofs.Entries.{get_there}
 use Rattle.redis_batches.proofs.Putting.{AreFor}
 use Rattle.resp.specs.Forms.{request}
 use Rattle.redis_batch_bytes.specs.Batches.{batch_bytes}
@@ -26,7 +25,7 @@ within (y ∷ xs) (suc n) x at = omega (arith, within xs n x at)
 -- answers that are those at places stand there
 pub are_for : (all : List Answer) (places : List ℕ) (answers : List (Result Value ErrorParts)) → All (λ n. n < length all) places → map answer_of answers ≡ in_order all places
     → AreFor all places answers
-are_for all places answers inside are i below = grind (arith, common_steps, slice_get-map answer_of answers i, get-in_order all places inside i, option_and_then, get_there places i 0 below)
+are_for all places answers inside are i below = grind (arith, common_steps, slice_get-map answer_of answers i, get-in_order all places inside i, option_and_then, slice_get-get_or places i 0 below)
 
 -- lists with the same elements at each place are one
 pub same_lists : {X Y : Type 0} (f : X → Y) (xs : List X) (ys : List Y) → length xs ≡ length ys → ((n : ℕ) → n < length xs → option_map f (slice_get xs n) ≡ slice_get ys n) → map f xs ≡ ys

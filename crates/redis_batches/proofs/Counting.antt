@@ -1,17 +1,10 @@
 -- Plans of the same commands have as many batches, where each slot has one node.
-use Rattle.std.proofs.Common.{◌≡◌, ℕ, List, [], ◌∷◌, Some, All, refl, sym, ap, ◌∙◌, map, arith}
+use Rattle.std.proofs.Common.{◌≡◌, ℕ, List, [], ◌∷◌, Some, All, refl, ap, ◌∙◌, map, arith}
 use Rattle.std.proofs.lemmas.Grind.{common_steps}
 use Rattle.std.proofs.lemmas.List.Elements.{All-head, All-tail}
 use Rattle.cluster_slots.specs.Address.{Address}
-use Rattle.cluster_map.specs.RangeMap.{Ascends}
-use Rattle.cluster_map.proofs.Ranges.{IsAnswerAt-unique}
 use Rattle.redis_cluster.proofs.Constructors.{same_head, same_some, same_tail}
 use Rattle.redis_batches.specs.Pipeline.{Part, Task}
-use Rattle.redis_batches.specs.Placed.{IsPrimaryOf, Ranges}
-
--- a slot has one primary
-pub one_primary : (ranges : Ranges) → Ascends ranges → (slot : ℕ) (a b : Address) → IsPrimaryOf ranges slot a → IsPrimaryOf ranges slot b → a ≡ b
-one_primary ranges ascends slot a b is_a is_b = is_a.2 ∙ ap (λ n. n.primary) (IsAnswerAt-unique ranges slot is_a.0 is_b.0 ascends is_a.1 is_b.1) ∙ sym is_b.2
 
 same_tasks : (xs ys : List Task) → map Some xs ≡ map Some ys → xs ≡ ys
 same_tasks [] [] e = refl

@@ -1,7 +1,7 @@
 -- The entries of a batch in the trace, and with what its parts ended.
-use Rattle.std.proofs.Common.{◌≡◌, ◌<◌, ℕ, ◌+◌, zero, suc, List, [], ◌∷◌, ◌++◌, Option, Some, All, refl, sym, ap, subst, ◌∙◌, arith, map, length, get_or}
+use Rattle.std.proofs.Common.{◌≡◌, ◌<◌, ℕ, ◌+◌, zero, suc, List, [], ◌∷◌, ◌++◌, Option, All, refl, sym, ap, subst, ◌∙◌, arith, map, length, get_or}
 use Rattle.std.proofs.lemmas.Grind.{common_steps}
-use Rattle.std.specs.Prelude.{nat_eq, slice_get}
+use Rattle.std.specs.Prelude.{nat_eq}
 use Rattle.std.specs.List.{zip}
 use Rattle.std.specs.Option.{option_to_list}
 use Rattle.std.proofs.lemmas.Bool.{eqb-true}
@@ -16,23 +16,14 @@ use Rattle.redis_batches.specs.Batched.{part_entry}
 use Rattle.redis_batches.specs.Taken.{AreAllowed, batch_entries, ending_by}
 use Rattle.redis_batches.proofs.Ends.{zip_with, map_agree}
 use Rattle.redis_batches.proofs.ByNode.{map_map}
-
--- functions that agree on a list have one list of values
-pub map_agree_on : {X A : Type 0} (f g : X → A) (xs : List X) → All (λ x. f x ≡ g x) xs → map f xs ≡ map g xs
-map_agree_on f g xs same = map_agree f g xs same
-
--- what is read within a list stands there
-pub get_there : {X : Type 0} (xs : List X) (n : ℕ) (d : X) → n < length xs → slice_get xs n ≡ Some (get_or xs n d)
-get_there [] n d inside = absurd (omega arith)
-get_there (x ∷ xs) zero d inside = refl
-get_there (x ∷ xs) (suc n) d inside = get_there xs n d (omega arith)
+use Rattle.std.proofs.lemmas.Option.{slice_get-get_or}
 
 -- parts at numbers are those that are read
 pub parts_read : (parts : List (List (List ℕ))) (own : List Numbered) → All (λ n. n < length parts) (map (λ (x : Numbered). x.0) own)
     → in_order parts (map (λ (x : Numbered). x.0) own) ≡ map (λ (x : Numbered). get_or parts x.0 []) own
 parts_read parts [] below = refl
 parts_read parts (x ∷ own) below =
-    ap (λ o. option_to_list o ++ in_order parts (map (λ (y : Numbered). y.0) own)) (get_there parts x.0 [] (All-head (λ n. n < length parts) x.0 (map (λ (y : Numbered). y.0) own) below))
+    ap (λ o. option_to_list o ++ in_order parts (map (λ (y : Numbered). y.0) own)) (slice_get-get_or parts x.0 [] (All-head (λ n. n < length parts) x.0 (map (λ (y : Numbered). y.0) own) below))
     ∙ ap (λ l. get_or parts x.0 [] ∷ l) (parts_read parts own (All-tail (λ n. n < length parts) x.0 (map (λ (y : Numbered). y.0) own) below))
 
 module _ (nodes : ℕ → Address) (batch : ℕ → ℕ) (parts : List (List (List ℕ))) where

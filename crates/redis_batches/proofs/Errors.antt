@@ -5,7 +5,7 @@ use Rattle.std.specs.Prelude.{Option, nat_eq, slice_get}
 use Rattle.std.specs.List.{enumerate_from}
 use Rattle.std.proofs.lemmas.List.{length-map}
 use Rattle.std.proofs.lemmas.List.Elements.{All-nil, All-append, All-head, All-tail}
-use Rattle.std.proofs.lemmas.Option.{same_Some, slice_get-map}
+use Rattle.std.proofs.lemmas.Option.{same_Some, slice_get-get_or, slice_get-map}
 use Rattle.resp_core.specs.Answer.{answer_of}
 use Rattle.resp_core.specs.ErrorParts.{ErrorParts}
 use Rattle.resp_core.specs.declared.value.Value.{Value}
@@ -13,7 +13,6 @@ use Rattle.redis_batches.specs.Pipeline.{Numbered, Part, Planned, Refusals, numb
 use Rattle.redis_batches.specs.Batched.{numbers_in, put_at}
 use Rattle.redis_batches.specs.Taken.{AnswersRefusals}
 use Rattle.redis_batches.specs.Turns.{batch_by_batch, of_slot}
-use Rattle.redis_batches.proofs.Entries.{get_there}
 use Rattle.redis_batches.proofs.Given.{batch_here, elsewhere, put_there}
 use Rattle.redis_batches.proofs.Sends.{all_of_numbers}
 
@@ -54,10 +53,10 @@ module _ (batch : ℕ → ℕ) (ps : List Planned) (k : ℕ) where
     errors_of_batch refusals ends ends_are errors within long = λ n d inside error is.
         let places : List ℕ = numbers_in batch ps k in
         let x : Numbered = get_or (own k) n d in
-        let there : slice_get (own k) n ≡ Some x = get_there (own k) n d inside in
+        let there : slice_get (own k) n ≡ Some x = slice_get-get_or (own k) n d inside in
         let many : n < length places = omega (arith, inside, length-map (own k) (λ (y : Numbered). y.0)) in
         let place : get_or places n 0 ≡ x.0 =
-        same_Some (get_or places n 0) x.0 (sym (get_there places n 0 many) ∙ slice_get-map (λ (y : Numbered). y.0) (own k) n ∙ ap (option_map (λ (y : Numbered). y.0)) there) in
+        same_Some (get_or places n 0) x.0 (sym (slice_get-get_or places n 0 many) ∙ slice_get-map (λ (y : Numbered). y.0) (own k) n ∙ ap (option_map (λ (y : Numbered). y.0)) there) in
         let ended : slice_get ends n ≡ Some (Some error) = ap (λ l. slice_get l n) (sym ends_are) ∙ slice_get-map refusals (own k) n ∙ ap (option_map refusals) there ∙ ap Some is in
         ap (option_map answer_of) (ap (slice_get (put_at out places replies)) (sym place) ∙ batch_here batch ps out k replies within long n 0 many)
         ∙ sym (slice_get-map answer_of replies n) ∙ errors n error ended

@@ -5,14 +5,13 @@ use Rattle.std.specs.Prelude.{nat_eq, slice_get}
 use Rattle.std.specs.List.{enumerate_from}
 use Rattle.std.proofs.lemmas.Bool.{eqb-true}
 use Rattle.std.proofs.lemmas.List.Elements.{All-nil, All-cons}
-use Rattle.std.proofs.lemmas.Option.{same_Some, slice_get-map, slice_get_within}
+use Rattle.std.proofs.lemmas.Option.{same_Some, slice_get-get_or, slice_get-map, slice_get_within}
 use Rattle.resp_core.proofs.Cases.{by_test}
 use Rattle.cluster_slots.specs.Address.{Address}
 use Rattle.cluster_map.specs.Numbered.{index_of}
 use Rattle.redis_batches.specs.Grouped.{places_in}
 use Rattle.redis_batches.specs.Plan.{AreFewest, Batches, IsByNode, IsPlan}
 use Rattle.redis_batches.proofs.ByNode.{node_at_index}
-use Rattle.redis_batches.proofs.Entries.{get_there}
 
 -- what holds of each place at which a number stands
 places_from : (P : ℕ → Type 0) (n k : ℕ) (numbers : List ℕ) → ((i : ℕ) → slice_get numbers i ≡ Some k → P (n + i)) → All P (map (λ (x : ℕ × ℕ). x.0) (filter (λ (x : ℕ × ℕ). nat_eq x.1 k) (enumerate_from n numbers)))
@@ -29,7 +28,7 @@ places_hold P k numbers holds = places_from P 0 k numbers (λ i at. let e : i �
 -- the node whose number this is stands at the number
 node_there : (nodes : Option Address) (found : List Address) (k : ℕ) → k < length found → option_map (λ node. index_of node found) nodes ≡ Some k → nodes ≡ slice_get found k
 node_there None found k within is = absurd (cc is)
-node_there (Some node) found k within is = grind (arith, common_steps, same_Some (index_of node found) k is, get_there found k node within, node_at_index)
+node_there (Some node) found k within is = grind (arith, common_steps, same_Some (index_of node found) k is, slice_get-get_or found k node within, node_at_index)
 
 -- There are no more batches than nodes.
 pub fewest : (batches : Batches) (nodes : List Address) → IsPlan batches → length nodes ≡ length batches.parts → IsByNode batches nodes → AreFewest batches

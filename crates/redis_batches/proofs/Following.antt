@@ -25,9 +25,9 @@ use Rattle.redis_batches.proofs.Again.{from_all, last_of_last}
 use Rattle.redis_batches.proofs.Alone.{IsOwnPart, alone_parts, alone_slots, as_own, as_own_are, numbered_own, numbers_at, parts_at, slots_at, tasks_alone}
 use Rattle.redis_batches.proofs.Ascending.{each_once}
 use Rattle.redis_batches.proofs.ByNode.{by_node_batches, map_map}
-use Rattle.redis_batches.proofs.Entries.{map_agree_on}
 use Rattle.redis_batches.proofs.GoOn.{go_apart, go_are_last, go_by, go_somewhere, goes_by, zip_fronts}
 use Rattle.redis_batches.proofs.Written.{zip_long}
+use Rattle.redis_batches.proofs.Ends.{map_agree}
 
 some_unwrap : {A : Type 0} (o : Option A) (d : A) → IsSome o → o ≡ Some (unwrap_or o d)
 some_unwrap (Some a) d is = refl
@@ -101,7 +101,7 @@ module _ {registered : Registrations} {ps : List Planned} {arguments : List (Lis
     pub own_nodes : nodes ≡ map (λ x. node_of (slot_of x)) xs
     own_nodes =
         nodes_are ∙ ap (map (λ n. node_of (slot_at slots n))) numbers_are ∙ sym (map_map (λ n. node_of (slot_at slots n)) (λ (x : Numbered). x.0) xs)
-        ∙ map_agree_on (λ (x : Numbered). node_of (slot_at slots x.0)) (λ (x : Numbered). node_of (slot_of x)) xs (λ k d inside. ap node_of (xs_slots k d inside))
+        ∙ map_agree (λ (x : Numbered). node_of (slot_at slots x.0)) (λ (x : Numbered). node_of (slot_of x)) xs (λ k d inside. ap node_of (xs_slots k d inside))
 
     pub own_parts : plan.parts ≡ map (λ x. get_or arguments x.0 []) xs
     own_parts = is.parts ∙ ap (map (λ n. get_or arguments n [])) numbers_are ∙ sym (map_map (λ n. get_or arguments n []) (λ (x : Numbered). x.0) xs)

@@ -10,7 +10,7 @@ use Rattle.std.proofs.lemmas.List.{length-set, map_more}
 use Rattle.std.proofs.lemmas.List.Elements.{All-nil, All-cons, All-filter, All-head, All-map, All-tail, All-take}
 use Rattle.resp_core.specs.Answer.{Answer}
 use Rattle.resp_core.proofs.Cases.{by_test}
-use Rattle.std.proofs.lemmas.Option.{same_Some}
+use Rattle.std.proofs.lemmas.Option.{same_Some, slice_get-get_or}
 use Rattle.redis_routing.specs.Registry.{Registrations}
 use Rattle.redis_cluster.specs.Orders.{NamesOnce, in_order, times}
 use Rattle.redis_cluster.proofs.Counts.{times_here, times_there}
@@ -20,8 +20,7 @@ use Rattle.redis_batches.specs.Plan.{Batches}
 use Rattle.redis_batches.specs.Pipeline.{Numbered, Part, Planned, numbered, pieces, slot_of}
 use Rattle.redis_batches.specs.Sent.{AreApart}
 use Rattle.redis_batches.specs.Turns.{of_slot}
-use Rattle.redis_batches.proofs.Ends.{numbers_apart}
-use Rattle.redis_batches.proofs.Entries.{get_there, map_agree_on}
+use Rattle.redis_batches.proofs.Ends.{map_agree, numbers_apart}
 use Rattle.redis_cluster.proofs.Sending.{set_here, set_there}
 
 -- no number of the one list is in the other
@@ -137,7 +136,7 @@ not_again k (j ∷ js) none =
 
 module _ (registered : Registrations) (ps : List Planned) (plan : Batches) (is : AreBatches registered ps plan.parts plan.places) where
   places_at : (k : ℕ) → k < length plan.places → get_or plan.places k [] ≡ numbers_in is.batch ps k
-  places_at k below = same_Some (get_or plan.places k []) (numbers_in is.batch ps k) (sym (get_there plan.places k [] below) ∙ is.places_are k below)
+  places_at k below = same_Some (get_or plan.places k []) (numbers_in is.batch ps k) (sym (slice_get-get_or plan.places k [] below) ∙ is.places_are k below)
 
   -- The answers to the batches before stay, and those to the next one stand.
   pub given_next : (order : List ℕ) → NamesOnce (length plan.places) order → (i : ℕ) → i < length order → times (get_or order i 0) (take i order) ≡ 0 → (now new told : List Answer)
@@ -147,7 +146,7 @@ module _ (registered : Registrations) (ps : List Planned) (plan : Batches) (is :
       let k = get_or order i 0 in
       let own : List ℕ = numbers_in is.batch ps k in
       let stay : answers_in plan new (take i order) ≡ answers_in plan now (take i order) =
-      map_agree_on (λ j. in_order new (get_or plan.places j [])) (λ j. in_order now (get_or plan.places j [])) (take i order)
+      map_agree (λ j. in_order new (get_or plan.places j [])) (λ j. in_order now (get_or plan.places j [])) (take i order)
       (λ m d within_it.
       let j = get_or (take i order) m d in
       let below : j < length plan.places = All-take (λ n. n < length plan.places) i order names.below m d within_it in

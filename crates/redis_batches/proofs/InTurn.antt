@@ -6,7 +6,7 @@ use Rattle.std.specs.List.{enumerate_from, zip, range_with_len}
 use Rattle.std.specs.Option.{option_to_list}
 use Rattle.std.proofs.lemmas.List.{append-nil}
 use Rattle.std.proofs.lemmas.List.Elements.{All-head, All-tail, All-filter, All-map, filter-append}
-use Rattle.std.proofs.lemmas.Option.{same_Some}
+use Rattle.std.proofs.lemmas.Option.{same_Some, slice_get-get_or}
 use Rattle.cluster_slots.specs.Address.{Address}
 use Rattle.resp_core.proofs.Cases.{by_test}
 use Rattle.redis_routing.specs.Registry.{Registrations}
@@ -25,7 +25,6 @@ use Rattle.redis_batches.proofs.Again.{among_own, none_among}
 use Rattle.redis_batches.proofs.Ascending.{each_once}
 use Rattle.redis_batches.proofs.ByNode.{by_node_below, by_node_places, map_map}
 use Rattle.redis_batches.proofs.Chain.{fronts_of}
-use Rattle.redis_batches.proofs.Entries.{get_there}
 use Rattle.redis_batches.proofs.GoOn.{go_apart, go_are_last}
 use Rattle.redis_batches.proofs.KeptSlots.{all_keep_slots}
 use Rattle.redis_batches.proofs.Lists.{filter_dropped, filter_first, filter_kept, filter_later, filter_swap}
@@ -67,7 +66,7 @@ module _ (ps : List Planned) (plan : Batches) (batch : ℕ → ℕ) (within : Al
   -- a batch has the parts of its slots, in their order
   batch_has : (k : ℕ) → k < length plan.places → in_order xs (get_or plan.places k []) ≡ of_slot (λ x. batch (slot_of x)) k xs
   batch_has k inside =
-      ap (in_order xs) (same_Some (get_or plan.places k []) (numbers_in batch ps k) (sym (get_there plan.places k [] inside) ∙ places_are k inside))
+      ap (in_order xs) (same_Some (get_or plan.places k []) (numbers_in batch ps k) (sym (slice_get-get_or plan.places k [] inside) ∙ places_are k inside))
       ∙ picked_by (λ t. nat_eq (batch t) k) xs 0 xs (pieces ps) slots (λ j. ap (slice_get xs) (zero-add j))
 
   batches_have : (order : List ℕ) → All (λ k. k < length plan.places) order → parts_by_batch plan xs order ≡ batch_by_batch (λ x. batch (slot_of x)) order xs

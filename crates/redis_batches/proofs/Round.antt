@@ -23,7 +23,7 @@ use Rattle.redis_batches.specs.BatchSends.{AreTaken, IsServed}
 use Rattle.redis_batches.specs.Plan.{Batches}
 use Rattle.redis_batches.specs.declared.nodes.BatchNodes.{Ghosts}
 use Rattle.redis_cluster.specs.Trace.{Entry}
-use Rattle.redis_batches.proofs.Entries.{own_entries, entries_agree, allowed_append, map_agree_on}
+use Rattle.redis_batches.proofs.Entries.{own_entries, entries_agree, allowed_append}
 use Rattle.redis_batches.specs.Batched.{numbers_in, part_entry, put_at, AreBatches, IsRight}
 use Rattle.redis_batches.proofs.Errors.{HasError, errors_at_end, errors_of_batch, errors_stay}
 use Rattle.redis_batches.proofs.Given.{not_again}
@@ -32,7 +32,7 @@ use Rattle.redis_batches.proofs.Whole.{all_after-append, answers-append}
 use Rattle.redis_batches.proofs.KeptSlots.{batches_keep_slots}
 use Rattle.redis_batches.proofs.Putting.{AreFor, put_kept, put_right}
 use Rattle.redis_batches.proofs.Refused.{refused_leaves, refused_answers}
-use Rattle.redis_batches.proofs.Ends.{with_ends, ends_in_batch, ends_of_batch, ends_before, after_agree, answers_agree}
+use Rattle.redis_batches.proofs.Ends.{after_agree, answers_agree, ends_before, ends_in_batch, ends_of_batch, map_agree, with_ends}
 use Rattle.redis_batches.proofs.Sends.{all_left, all_right, all_after-map, answers-map, length-answers, picked, numbers_below, one_batch_more, batches_split, are_for, answers_numbers, answers_whose, each_number, same_list, all_unmap}
 
 -- the tasks of numbered parts
@@ -188,7 +188,7 @@ module _ {S : Type 0} (N : Ghosts S) (at_start : S) (plan : Batches) {ps : List 
         let many : length (N.state now).trace ≡ length (N.state at_start).trace + length (map next before) =
         ap length so_far.trace ∙ length-append (N.state at_start).trace (map (entry_with so_far.refusals) before)
         ∙ ap (λ n. length (N.state at_start).trace + n) (length-map before (entry_with so_far.refusals) ∙ sym (length-map before next)) in
-        let first : AreAllowed (N.may_refuse at_start) (length (N.state at_start).trace) (map next before) = subst (AreAllowed (N.may_refuse at_start) (length (N.state at_start).trace)) (sym (map_agree_on next so_far.refusals before same_before)) so_far.allowed in
+        let first : AreAllowed (N.may_refuse at_start) (length (N.state at_start).trace) (map next before) = subst (AreAllowed (N.may_refuse at_start) (length (N.state at_start).trace)) (sym (map_agree next so_far.refusals before same_before)) so_far.allowed in
         let second : AreAllowed (N.may_refuse at_start) (length (N.state at_start).trace + length (map next before)) (map next own) =
         subst (λ n. AreAllowed (N.may_refuse at_start) n (map next own)) many (subst (AreAllowed (N.may_refuse at_start) (length (N.state now).trace)) (sym ends_are) taken.allowed) in
         subst (AreAllowed (N.may_refuse at_start) (length (N.state at_start).trace)) (sym (ap (map next) (one_batch_more batch_of (numbered ps) order i k inside at) ∙ map-append next before own))

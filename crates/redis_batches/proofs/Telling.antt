@@ -2,17 +2,16 @@
 use Rattle.std.proofs.Common.{◌≡◌, ◌∙◌, ℕ, List, [], Some, Result, true, ap, get_or, sym, arith}
 use Rattle.std.proofs.lemmas.Grind.{common_steps}
 use Rattle.std.specs.Prelude.{slice_get, slice_set}
-use Rattle.std.proofs.lemmas.Option.{same_Some, slice_get_within}
+use Rattle.std.proofs.lemmas.Option.{same_Some, slice_get-get_or, slice_get_within}
 use Rattle.resp_core.specs.ErrorParts.{ErrorParts}
 use Rattle.resp_core.specs.declared.value.Value.{Value}
 use Rattle.redis_batches.specs.Batched.{put_at}
 use Rattle.redis_batches.specs.PipelinePlan.{IsSameBut, PipelineBatches, told_batch, with_answers}
-use Rattle.redis_batches.proofs.Entries.{get_there}
 use Rattle.redis_batches.proofs.Putting.{length-put_at}
 
 -- what is read of a list is what stands there
 pub there : {X : Type 0} (lists : List (List X)) (n : ℕ) (l : List X) → slice_get lists n ≡ Some l → l ≡ get_or lists n []
-there lists n l at = same_Some l (get_or lists n []) (sym at ∙ get_there lists n [] (slice_get_within lists n l at))
+there lists n l at = same_Some l (get_or lists n []) (sym at ∙ slice_get-get_or lists n [] (slice_get_within lists n l at))
 
 -- the plan after they were put at their places
 pub told_is : (old now : PipelineBatches) → old ≡ now → (number : ℕ) (answers put : List (Result Value ErrorParts)) → put ≡ put_at old.batches.answers (get_or old.batches.places number []) answers

@@ -6,8 +6,8 @@ use Rattle.redis_batches.specs.Outgoing.{ArePartsOf}
 use Rattle.redis_batches.specs.PartArguments.{sent_args}
 use Rattle.redis_batches.specs.Rounds.{last_round}
 use Rattle.redis_batches.proofs.Chain as chain
-use Rattle.redis_batches.proofs.Frame.{frame_more}
 use Rattle.redis_batches.proofs.retrying.send_again.Goals as goal
+use Rattle.redis_batches.proofs.Frame.{frame_more}
 
 pub loop-round-init : goal.loop-round-init
 loop-round-init g c = grind (arith, common_steps)

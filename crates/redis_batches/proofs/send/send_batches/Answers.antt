@@ -1,14 +1,13 @@
-use Rattle.std.proofs.Common.{◌≡◌, ◌<◌, ◌≤◌, ◌∙◌, ℕ, ◌+◌, List, [], ◌∷◌, All, false, true, Some, refl, sym, ap, subst, arith, cond, map, length, get_or, take, take_all}
+use Rattle.std.proofs.Common.{◌≡◌, ◌<◌, ◌≤◌, ◌∙◌, ℕ, ◌+◌, List, [], ◌∷◌, All, false, true, Some, refl, sym, ap, subst, arith, map, length, get_or, take, take_all}
 use Rattle.std.specs.Prelude.{slice_get, slice_set}
 use Rattle.std.proofs.lemmas.List.{append-nil, length-map, length-take-le}
-use Rattle.std.proofs.lemmas.Option.{same_Some}
+use Rattle.std.proofs.lemmas.Option.{same_Some, slice_get-get_or}
 use Rattle.resp_core.specs.Answer.{Answer, answer_of}
 use Rattle.resp_core.proofs.Cases.{by_test}
 use Rattle.redis_routing.specs.Registry.{Registrations}
-use Rattle.redis_cluster.specs.Orders.{NamesOnce, in_order, times}
+use Rattle.redis_cluster.specs.Orders.{in_order, times}
 use Rattle.redis_cluster.specs.declared.nodes.SendError.{SendError}
-use Rattle.redis_cluster.proofs.Counts.{same_number}
-use Rattle.redis_cluster.proofs.Once.{times_more, times-take, names_once-apart}
+use Rattle.redis_cluster.proofs.Once.{times_more}
 use Rattle.redis_batches.specs.Pipeline.{Planned}
 use Rattle.redis_batches.specs.BatchSends.{IsBatchNotTaken, IsBatchTaken}
 use Rattle.redis_batches.specs.Batched.{AreBatches, numbers_in, put_at}
@@ -19,23 +18,14 @@ use Rattle.redis_batches.specs.Taken.{Batch, batch_for, IsNotTaken, IsTaken}
 use Rattle.redis_batches.specs.Driven.{Grew, WereAskedUntil, answers_in, batch_at, node_at}
 use Rattle.redis_batches.specs.declared.nodes.BatchNodes.{Ghosts}
 use Rattle.redis_batches.proofs.Asked.{asked_last, asked_more, asked_next, asked_none, same_batch}
-use Rattle.redis_batches.proofs.Frame.{frame_more, frame_none}
 use Rattle.redis_batches.proofs.Untaken.{not_taken_since}
-use Rattle.redis_batches.proofs.Entries.{get_there}
 use Rattle.redis_batches.proofs.Given.{given_next}
-use Rattle.redis_cluster.proofs.Sending.{set_there}
+use Rattle.redis_cluster.proofs.Sending.{not_yet, set_there}
 use Rattle.redis_batches.proofs.Putting.{map-put_at}
 use Rattle.redis_batches.proofs.Telling.{same_more, told_put, told_same}
 use Rattle.redis_batches.proofs.Round as round
 use Rattle.redis_batches.proofs.send.send_batches.Goals as goal
-
--- a batch that is sent was not sent before
-fresh : (count : ℕ) (order : List ℕ) (i : ℕ) → NamesOnce count order → i < length order → times (get_or order i 0) (take i order) ≡ 0
-fresh count order i names inside =
-    let k = get_or order i 0 in
-    let more : times k (take (i + 1) order) ≡ times k (take i order) + 1 =
-    times_more k order i 0 inside ∙ ap (λ b. times k (take i order) + cond b 1 0) (same_number k) in
-    omega (arith, more, times-take k order (i + 1), names_once-apart count order names k)
+use Rattle.redis_batches.proofs.Frame.{frame_more, frame_none}
 
 -- after it the others are untold
 untold_less : (told : List _) (order : List ℕ) (i count : ℕ) → i < length order
@@ -45,7 +35,7 @@ untold_less told order i count inside untold k none below = grind (arith, by_tes
 
 -- the parts of a batch are those of its number
 own_parts : {registered : Registrations} {ps : List Planned} (plan : Batches) (is : AreBatches registered ps plan.parts plan.places) (k : ℕ) → k < length plan.places → in_order plan.parts (get_or plan.places k []) ≡ in_order plan.parts (numbers_in is.batch ps k)
-own_parts {registered} {ps} plan is k below = ap (in_order plan.parts) (same_Some (get_or plan.places k []) (numbers_in is.batch ps k) (sym (get_there plan.places k [] below) ∙ is.places_are k below))
+own_parts {registered} {ps} plan is k below = ap (in_order plan.parts) (same_Some (get_or plan.places k []) (numbers_in is.batch ps k) (sym (slice_get-get_or plan.places k [] below) ∙ is.places_are k below))
 
 module _ {S : Type 0} {N : Ghosts S} {old now new : S} (frame : SameNodes N old now) (plan : Batches) {ps : List Planned} (is : AreBatches (N.registered old) ps plan.parts plan.places) (k : ℕ) (below : k < length plan.places) (batch : Batch) (same : batch ≡ batch_at plan k) where
   -- what was taken of it, by nodes that may refuse no more than before
@@ -69,7 +59,7 @@ pub tell_first-requires-clause-first : goal.tell_first-requires-clause-first
 tell_first-requires-clause-first g c =
     let order = c.args.order.now in
     let i = c.loop-number.number-index in
-    c.loop-number.invariant.untold (get_or order i 0) (fresh (length c.args.plan.now.batches.places) order i c.requires.order c.loop-number-test.true) (c.requires.order.below i 0 c.loop-number-test.true)
+    c.loop-number.invariant.untold (get_or order i 0) (not_yet (length c.args.plan.now.batches.places) order i c.requires.order c.loop-number-test.true) (c.requires.order.below i 0 c.loop-number-test.true)
 
 pub tell_first-requires-clause-long : goal.tell_first-requires-clause-long
 tell_first-requires-clause-long g c =
@@ -93,7 +83,7 @@ loop-number-init g c =
       room = c.requires.plan.answers;
       untold = λ k none below.
           let within : k < length plan.told = subst (λ n. k < n) (sym c.requires.plan.told) below in
-          get_there plan.told k true within ∙ ap Some (c.requires.untold k true within);
+          slice_get-get_or plan.told k true within ∙ ap Some (c.requires.untold k true within);
       so_far = λ ps are is names. round.at_first N c.args.nodes.now plan are is names plan.answers;
       frame = frame_none N c.args.nodes.now;
       asked = asked_none (N.asked c.args.nodes.now);
@@ -145,7 +135,7 @@ loop-number-preserved g c =
           length-map replies answer_of ∙ c.in-Ok.ensures.answers list at ∙ ap (λ parts. length (in_order parts list)) (ap (λ (p : PipelineBatches). p.batches.parts) inv.same.0) ∙ round.batch_long N first plan c.requires.batches.1 is c.requires.order k in
           let told : map answer_of c.tell_first.new.plan.batches.answers ≡ put_at (map answer_of before) list (map answer_of replies) = ap (map answer_of) (put list at) ∙ map-put_at answer_of before list replies in
           subst (Grew (N.gave first) (N.gave c.send_one.new.nodes))
-          (sym (given_next (N.registered first) ps plan is order c.requires.order i inside (fresh (length plan.places) order i c.requires.order inside) (map answer_of before) (map answer_of c.tell_first.new.plan.batches.answers) (map answer_of replies) told within long))
+          (sym (given_next (N.registered first) ps plan is order c.requires.order i inside (not_yet (length plan.places) order i c.requires.order inside) (map answer_of before) (map answer_of c.tell_first.new.plan.batches.answers) (map answer_of replies) told within long))
           (asked_more (N.gave first) (N.gave l.nodes) (N.gave c.send_one.new.nodes) (answers_in plan (map answer_of before) (take i order)) (map answer_of replies ∷ []) inv.given c.in-Ok.ensures.gave);
       answered = omega (arith, inv.answered);
     }
@@ -186,7 +176,7 @@ returns-in-Err-clause-stopped g c =
         between = N.state l.nodes;
         taken = rw inv.answered (round.taken_so_far N c.args.nodes.now plan are is c.requires.order i c.send_one.ensures.frame.kept (inv.so_far ps are is c.requires.order));
         number = k;
-        next = ap (slice_get order) inv.answered ∙ get_there order i 0 inside;
+        next = ap (slice_get order) inv.answered ∙ slice_get-get_or order i 0 inside;
         untaken = own_not_taken inv.frame plan is k (c.requires.order.below i 0 inside) (batch_at l.plan.batches k) own c.in-Err.ensures.untaken;
       };
       asked = subst (λ n. WereAskedUntil (N.asked c.args.nodes.now) (N.asked c.send_one.new.nodes) (map (batch_at plan) (take n order)) (batch_at plan (get_or order n 0)) c.in-Err.error) (sym inv.answered) asked;

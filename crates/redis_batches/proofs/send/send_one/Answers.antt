@@ -1,6 +1,6 @@
 use Rattle.std.proofs.Common.{◌≡◌, ◌<◌, ◌∙◌, ℕ, List, [], ◌∷◌, Some, inl, inr, arith, ap, refl, sym, subst, map, length, option_map, get_or}
 use Rattle.std.specs.Prelude.{IfErr, IfOk, OnOk, slice_get}
-use Rattle.std.proofs.lemmas.Option.{same_Some}
+use Rattle.std.proofs.lemmas.Option.{same_Some, slice_get-get_or}
 use Rattle.std.proofs.lemmas.Result.{IfErr-weaker}
 use Rattle.resp_core.specs.Answer.{answer_of}
 use Rattle.cluster_slots.specs.Address.{Address}
@@ -10,21 +10,20 @@ use Rattle.redis_batches.specs.Taken.{batch_for}
 use Rattle.redis_batches.specs.Driven.{Grew, WereAskedUntil, batch_at, node_at}
 use Rattle.redis_batches.specs.Plan.{Batches, IsPlan}
 use Rattle.redis_batches.proofs.Asked.{asked_none, none_more}
-use Rattle.redis_batches.proofs.Entries.{get_there}
 use Rattle.redis_batches.proofs.send.send_one.Given.{Over}
 use Rattle.redis_batches.proofs.send.send_one.Goals as goal
 use Rattle.redis_batches.proofs.send.send_one.Goals.{After-as_slice}
 
 -- a batch has a node
 has_node : (plan : Batches) (number : ℕ) → IsPlan plan → number < length plan.places → slice_get plan.nodes number ≡ Some (node_at plan.nodes number)
-has_node plan number is within = get_there plan.nodes number (record { host = []; port = 0 }) (omega (arith, within, is.nodes))
+has_node plan number is within = slice_get-get_or plan.nodes number (record { host = []; port = 0 }) (omega (arith, within, is.nodes))
 
 -- what was read of a plan is the batch of the number
 own_batch : (plan : Batches) (number : ℕ) → IsPlan plan → number < length plan.places → (node : Address) → slice_get plan.nodes number ≡ Some node
     → (parts : List (List (List ℕ))) → option_map (in_order plan.parts) (slice_get plan.places number) ≡ Some parts → batch_for node parts ≡ batch_at plan number
 own_batch plan number is within node there parts read =
     ap (λ n. batch_for n parts) (same_Some node (node_at plan.nodes number) (sym there ∙ has_node plan number is within))
-    ∙ ap (batch_for (node_at plan.nodes number)) (same_Some parts (in_order plan.parts (get_or plan.places number [])) (sym read ∙ ap (option_map (in_order plan.parts)) (get_there plan.places number [] within)))
+    ∙ ap (batch_for (node_at plan.nodes number)) (same_Some parts (in_order plan.parts (get_or plan.places number [])) (sym read ∙ ap (option_map (in_order plan.parts)) (slice_get-get_or plan.places number [] within)))
 
 own : (g : Over) (c : After-as_slice g) → batch_for c.in-Some-node.node.now (map (λ cmd. cmd.now) c.as_slice.result.now) ≡ batch_at c.args.plan.now.batches c.args.number
 own g c =
