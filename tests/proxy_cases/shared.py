@@ -300,7 +300,7 @@ def try_long():
 
 def use_pipelines(number, over, counts):
     """Sets and reads keys of two slots, twice each, without waiting, until the slot has moved."""
-    rng, client = random.Random(number), Client()
+    rng, client = random.Random(number), Client(OTHER)
     keys = [f"{{foo}}{number}.{at}" for at in range(50)] + [f"{{bar}}{number}.{at}" for at in range(20)]
     while not over.is_set():
         some = [(key, str(rng.randrange(10**6))) for key in rng.choices(keys, k=4) * 2]
@@ -311,7 +311,7 @@ def use_pipelines(number, over, counts):
 
 def use_keys(number, over, counts):
     """Writes and reads keys of two slots, until the slot has moved."""
-    rng, client, values = random.Random(number), Client(), {}
+    rng, client, values = random.Random(number), Client(OTHER), {}
     keys = [f"{{foo}}{number}.{at}" for at in range(50)] + [f"{{bar}}{number}.{at}" for at in range(20)]
     while not over.is_set():
         some = rng.sample(keys, 4)
@@ -327,20 +327,22 @@ def use_keys(number, over, counts):
 
 
 def try_move():
-    """While a slot moves, each value that clients read is the one that was written last."""
+    """While a slot moves, each value that clients read is the one that was written last. A command over
+    several keys is tried until the move ends, which takes ten seconds on a busy machine."""
     over, counts, piped = threading.Event(), Counter(), Counter()
     clients = [threading.Thread(target=use_keys, args=(it, over, counts)) for it in range(4)]
     clients += [threading.Thread(target=use_pipelines, args=(it, over, piped)) for it in (4, 5)]
-    for it in clients:
-        it.start()
-    try:
-        over.wait(1)
-        print(cluster("move", MOVED_SLOT), end="")
-        over.wait(1)
-    finally:
-        over.set()
-    for it in clients:
-        it.join()
+    with proxy(OTHER, PORT, "--retry", "60000"):
+        for it in clients:
+            it.start()
+        try:
+            over.wait(1)
+            print(cluster("move", MOVED_SLOT), end="")
+            over.wait(1)
+        finally:
+            over.set()
+        for it in clients:
+            it.join()
     print("commands of four clients meanwhile:", dict(counts))
     print("pipelines of two clients meanwhile:", dict(piped))
     return counts.keys() == {"written", "read"} and piped.keys() == {"read"}
