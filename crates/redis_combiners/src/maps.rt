@@ -177,12 +177,16 @@ fn common_lead(totals: &[(Vec<u8>, i128)]) -> usize {
 
 /// The eight bytes of a key after the lead, as one number.
 fn number_after(key: &[u8], lead: usize) -> u64 {
-    let mut number = 0_u64;
-    for i in 0..8_usize {
-        let byte = key.get(lead.saturating_add(i)).copied().unwrap_or(0);
-        number = number << 8 | u64::from(byte);
+    let rest = key.get(lead..).unwrap_or(&[]);
+    if let Some(eight) = rest.first_chunk::<8>() {
+        return u64::from_be_bytes(*eight);
     }
-    number
+    let mut number = 0_u64;
+    for byte in rest {
+        number = number << 8 | u64::from(*byte);
+    }
+    let missing = 8_usize.saturating_sub(rest.len());
+    number.wrapping_shl(8 * missing as u32)
 }
 
 /// The totals by ascending key.
@@ -196,11 +200,11 @@ fn by_key(mut totals: Vec<(Vec<u8>, i128)>) -> Result<Vec<(Vec<u8>, i128)>, Allo
 {
     let lead = common_lead(&totals);
     totals.sort_by_cached_key(|entry: &(Vec<u8>, i128)| number_after(&entry.0, lead))?;
-    totals.sort_by(
+    totals.sort_unstable_by(
         |a: &(Vec<u8>, i128), b: &(Vec<u8>, i128)| -> Ordering
             ensures { result ≡ slice_cmp nat_cmp a.now.0.items b.now.0.items }
         { a.0.cmp(&b.0) },
-    )?;
+    );
     Ok(totals)
 }
 

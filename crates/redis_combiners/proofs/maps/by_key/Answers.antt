@@ -4,7 +4,7 @@ use Rattle.redis_combiners.proofs.ByKey.{sorted_by_key}
 use Rattle.redis_combiners.proofs.maps.by_key.Goals as goal
 
 pub returns-clause-same : goal.returns-clause-same
-returns-clause-same c = IsPermutation-trans c.args.totals.items c.sort_by_cached_key.new.self.items c.sort_by.new.self.items c.sort_by_cached_key.ensures.permutation c.sort_by.ensures.permutation
+returns-clause-same c = IsPermutation-trans c.args.totals.items c.sort_by_cached_key.new.self.items c.sort_unstable_by.new.self.items c.sort_by_cached_key.ensures.permutation c.sort_unstable_by.ensures.permutation
 
 pub returns-clause-ascending : goal.returns-clause-ascending
-returns-clause-ascending c = sorted_by_key c.sort_by.new.self.items c.in_ok-sort_by.ensures.sorted (λ a r f' k. search rules)
+returns-clause-ascending c = sorted_by_key c.sort_unstable_by.new.self.items c.sort_unstable_by.ensures.sorted (λ a r f' k. search rules)
