@@ -15,7 +15,8 @@ use Rattle.cluster_map.specs.Topology.{has_primary, first_replicas, shard_with, 
 use Rattle.cluster_map.specs.Inner.Topology.{primary_of}
 use Rattle.cluster_map.proofs.Places.{cons_cond}
 use Rattle.cluster_map.proofs.Members.{add_new, added_once, list_any-last}
-use Rattle.resp_core.proofs.Cases.{by_test, or_second}
+use Rattle.resp_core.proofs.Cases.{by_test}
+use Rattle.std.proofs.lemmas.Bool.{or_right, or_from}
 
 -- a shard with a range more
 abbrev pub with_range : ShardNodes → RangeEntry SlotNodes → ShardNodes
@@ -164,12 +165,8 @@ step_at (k ∷ ks) rs r d a = by_test (same_address (entry_primary r) k)
     ∙ ap (λ z. shard_of (rs ++ r ∷ []) k ∷ z) (step_at ks rs r d.1 a.1 v)
     ∙ ap (map (shard_of (rs ++ r ∷ []))) (cons_cond (list_any (same_address (entry_primary r)) ks) k ks (ks ++ (entry_primary r) ∷ []))))
 
-both_false : (a b : Bool) → a ≡ false → b ≡ false → (a || b) ≡ false
-both_false true b h k = cc
-both_false false b h k = k
-
 apart_last : (ks : List Address) (k p : Address) → list_any (same_address k) ks ≡ false → same_address k p ≡ false → list_any (same_address k) (ks ++ p ∷ []) ≡ false
-apart_last ks k p a h = list_any-last (same_address k) ks p ∙ both_false _ _ a h
+apart_last ks k p a h = list_any-last (same_address k) ks p ∙ or_from _ _ a h
 
 distinct_cond : (b : Bool) (k p : Address) (ks : List Address) → Distinct (k ∷ ks) → same_address k p ≡ false → Distinct (cond b ks (ks ++ p ∷ [])) → Distinct (cond b (k ∷ ks) (k ∷ (ks ++ p ∷ [])))
 distinct_cond true k p ks d h e = d
@@ -189,7 +186,7 @@ have_last (k ∷ ks) rs p a h = (a.0, have_last ks rs p a.1 h)
 
 have_cond : (b : Bool) (ks : List Address) (rs : List (RangeEntry SlotNodes)) (r : RangeEntry SlotNodes) → AllHave rs ks → AllHave (rs ++ r ∷ []) (cond b ks (ks ++ (entry_primary r) ∷ []))
 have_cond true ks rs r a = have_more ks rs r a
-have_cond false ks rs r a = have_last ks (rs ++ r ∷ []) (entry_primary r) (have_more ks rs r a) (list_any-last (has_primary (entry_primary r)) rs r ∙ or_second _ _ (same_refl (entry_primary r)))
+have_cond false ks rs r a = have_last ks (rs ++ r ∷ []) (entry_primary r) (have_more ks rs r a) (list_any-last (has_primary (entry_primary r)) rs r ∙ or_right _ _ (same_refl (entry_primary r)))
 
 none_left : (a b : Bool) → (a || b) ≡ false → a ≡ false
 none_left true b h = cc
@@ -201,11 +198,11 @@ none_right false b h = h
 
 covers_new : (ks : List Address) (rs : List (RangeEntry SlotNodes)) (r : RangeEntry SlotNodes) → ((p : Address) → list_any (same_address p) ks ≡ false → list_any (has_primary p) rs ≡ false) → (p : Address) → list_any (same_address p) (add_new ks (entry_primary r)) ≡ false → list_any (has_primary p) (rs ++ r ∷ []) ≡ false
 covers_new ks rs r v p = by_test (list_any (same_address (entry_primary r)) ks)
-    (λ t. rw t (λ h. list_any-last (has_primary p) rs r ∙ both_false _ _ (v p h)
+    (λ t. rw t (λ h. list_any-last (has_primary p) rs r ∙ or_from _ _ (v p h)
     (by_test (same_address p (entry_primary r)) (λ s. let e = same_from_address p (entry_primary r) s in let q : true ≡ false = sym t ∙ ap (λ z. list_any (same_address z) ks) (sym e) ∙ h in cc) (λ s. s))))
     (λ t. rw t (λ h.
     let s : (list_any (same_address p) ks || same_address p (entry_primary r)) ≡ false = sym (list_any-last (same_address p) ks (entry_primary r)) ∙ h in
-    list_any-last (has_primary p) rs r ∙ both_false _ _ (v p (none_left _ _ s)) (none_right _ _ s)))
+    list_any-last (has_primary p) rs r ∙ or_from _ _ (v p (none_left _ _ s)) (none_right _ _ s)))
 
 good_more : (rs : List (RangeEntry SlotNodes)) (r : RangeEntry SlotNodes) (ks : List Address) → Good rs ks → Good (rs ++ r ∷ []) (add_new ks (entry_primary r))
 good_more rs r ks g = record { distinct = distinct_new ks (entry_primary r) g.distinct; have = have_cond (list_any (same_address (entry_primary r)) ks) ks rs r g.have; covers = covers_new ks rs r g.covers }

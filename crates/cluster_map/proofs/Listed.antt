@@ -1,6 +1,6 @@
 -- The topology of a map lists just the map's shards.
-use Rattle.std.proofs.Common.{◌≡◌, ℕ, zero, suc, Bool, true, false, not, nat_eq, List, [], ◌∷◌, map, filter, slice_get, Some, refl, sym, ap, subst, ◌∙◌, arith}
-use Rattle.std.specs.List.{cons_option, list_any}
+use Rattle.std.proofs.Common.{◌≡◌, ℕ, zero, suc, true, false, not, nat_eq, List, [], ◌∷◌, map, filter, slice_get, Some, refl, sym, ap, subst, ◌∙◌, arith}
+use Rattle.std.specs.List.{cons_option}
 use Rattle.std.proofs.lemmas.Bool.{eqb-true}
 use Rattle.std.proofs.lemmas.Bool.Decides.{nat_tests}
 use Rattle.std.proofs.lemmas.Option.{slice_get-map}
@@ -16,15 +16,11 @@ use Rattle.cluster_map.proofs.Members.{added_once}
 use Rattle.cluster_map.proofs.Groups.{Distinct, primaries-distinct, same_refl}
 use Rattle.cluster_map.proofs.Inserts.{insert_steps, insert_steps-is, by_option, with_value}
 use Rattle.cluster_map.proofs.Agreement.{with_primary, resolved}
-
-any_at : {X : Type 0} (p : X → Bool) (xs : List X) (place : ℕ) (x : X) → slice_get xs place ≡ Some x → p x ≡ true → list_any p xs ≡ true
-any_at p [] place x at is = cc
-any_at p (y ∷ ys) zero x at is = let same : y ≡ x = cc in let first : p y ≡ true = ap p same ∙ is in rw first refl
-any_at p (y ∷ ys) (suc place) x at is = by_test (p y) (λ t. rw t refl) (λ t. rw t (any_at p ys place x at is))
+use Rattle.std.proofs.lemmas.Map.Keys.{any_passes_from_place}
 
 -- the first of distinct addresses is none of the others
 not_later : (k a : Address) (ks : List Address) (place : ℕ) → Distinct (k ∷ ks) → k ≡ a → slice_get ks place ≡ Some a → true ≡ false
-not_later k a ks place distinct same at = grind (arith, any_at, same_refl)
+not_later k a ks place distinct same at = grind (arith, any_passes_from_place, same_refl)
 
 -- of distinct addresses each stands at one place
 place_unique : (ks : List Address) → Distinct ks → (i j : ℕ) (a : Address) → slice_get ks i ≡ Some a → slice_get ks j ≡ Some a → i ≡ j

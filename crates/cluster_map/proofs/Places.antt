@@ -114,7 +114,7 @@ pub insert-is_insert_entry : {V : Type 0} (es seen : List (RangeEntry V)) (place
 insert-is_insert_entry es seen place start end value ascends same at test = grind (arith, slice_get, insert_entry-at, cond-false)
 
 -- what stands at a place, and from it on
-drop-found : {X : Type 0} (xs : List X) (place : ℕ) (x : X) → slice_get xs place ≡ Some x → drop place xs ≡ x ∷ drop (suc place) xs
+pub drop-found : {X : Type 0} (xs : List X) (place : ℕ) (x : X) → slice_get xs place ≡ Some x → drop place xs ≡ x ∷ drop (suc place) xs
 drop-found [] place x found = cc
 drop-found (y ∷ ys) zero x found = let same : y ≡ x = cc in ap (λ z. z ∷ ys) same
 drop-found (y ∷ ys) (suc place) x found = drop-found ys place x found

@@ -1,5 +1,5 @@
 -- When two ranges are one.
-use Rattle.std.proofs.Common.{◌≡◌, ℕ, true, false, Bool, ◌&&◌, ◌==◌, List, refl, arith}
+use Rattle.std.proofs.Common.{◌≡◌, ℕ, true, false, Bool, ◌&&◌, ◌==◌, List, arith}
 use Rattle.std.proofs.lemmas.Bool.Decides.{nat_tests}
 use Rattle.std.specs.Bool.{Decides}
 use Rattle.std.specs.Cmp.Lexicographic.{pointwise, pointwise_decides}
@@ -10,10 +10,6 @@ use Rattle.cluster_slots.proofs.Orders.{address_decides, same_from_address}
 -- `==` of lists of addresses and of ranges is true exactly where the two are one
 nodes_decide : (xs ys : List Address) → Decides (pointwise same_address xs ys) (xs ≡ ys)
 nodes_decide = pointwise_decides address_decides
-
-both : (x y : Bool) → x && y ≡ true → (x ≡ true) × (y ≡ true)
-both true y h = (refl, h)
-both false y h = cc
 
 both_true : (x y : Bool) → x ≡ true → y ≡ true → x && y ≡ true
 both_true true y p q = q

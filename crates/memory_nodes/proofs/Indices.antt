@@ -1,10 +1,7 @@
 -- The node at a place among a primary and its replicas.
-use Rattle.std.proofs.Common.{◌≡◌, ◌<◌, ◌%◌, ◌-◌, ℕ, zero, suc, List, ◌∷◌, length, Some, slice_get, refl, ap, arith}
+use Rattle.std.proofs.Common.{◌≡◌, ◌<◌, ◌%◌, ◌-◌, ℕ, zero, suc, List, ◌∷◌, length, Some, slice_get, refl, arith}
 use Rattle.std.proofs.lemmas.Grind.{common_steps}
 use Rattle.std.proofs.Math.Nat.{mod-eq_of_lt}
-
-pub at_first : {X : Type 0} (x : X) (xs : List X) (place : ℕ) → place ≡ 0 → slice_get (x ∷ xs) place ≡ Some x
-at_first x xs place is = ap (slice_get (x ∷ xs)) is
 
 pub at_later : {X : Type 0} (x y : X) (xs : List X) (place : ℕ) → ¬ (place ≡ 0) → place < length (x ∷ xs) → slice_get xs ((place - 1) % length xs) ≡ Some y → slice_get (x ∷ xs) place ≡ Some y
 at_later x y xs zero later below there = absurd (later refl)

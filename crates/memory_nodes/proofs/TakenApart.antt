@@ -1,5 +1,5 @@
 -- A multi-key command, taken apart.
-use Rattle.std.proofs.Common.{◌≡◌, ℕ, ◌-◌, List, [], ◌∷◌, Bool, true, false, cond, Option, Some, None, map, option_map, length, take, drop, refl, sym, ap, ◌∙◌, subst}
+use Rattle.std.proofs.Common.{◌≡◌, ℕ, ◌-◌, List, Bool, true, false, cond, Option, Some, None, map, option_map, length, take, drop, refl, sym, ap, ◌∙◌, subst}
 use Rattle.std.specs.Prelude.{IsSome, option_and_then, slice_get}
 use Rattle.std.proofs.lemmas.List.{take-map, drop-map, length-map}
 use Rattle.std.specs.declared.vec.Vec.{Vec}
@@ -17,14 +17,10 @@ use Rattle.redis_cluster.specs.MultiKey.{MultiKey, ReplyForm, multi_key, command
 use Rattle.redis_cluster.proofs.Shapes.{shared_is, tuples_are_placed, whole_is}
 use Rattle.redis_cluster.specs.PlacedTuples.{tuples_of}
 use Rattle.memory_nodes.specs.Parts.{words, key_tuples}
-
--- a command without gaps has all its arguments before the first
-front_all : (args : List (List ℕ)) → arguments_before_gap (map Some args) ≡ args
-front_all [] = refl
-front_all (arg ∷ args) = ap (λ rest. arg ∷ rest) (front_all args)
+use Rattle.redis_routing.proofs.SelfRouting.{arguments_before_gap-map}
 
 run_all : (count : ℕ) (args : List (List ℕ)) → present_arguments_after count (map Some args) ≡ drop count args
-run_all count args = ap arguments_before_gap (drop-map Some count args) ∙ front_all (drop count args)
+run_all count args = ap arguments_before_gap (drop-map Some count args) ∙ arguments_before_gap-map (drop count args)
 
 -- the lists that a run is cut into, which begins after so many words
 module _ (count : ℕ) (args run tuples shared : List (Vec ℕ Global)) (cmd : List (List ℕ)) (own : ℕ) (pattern : MultiSlotArgPattern) (are_args : words args ≡ cmd) (is_run : run ≡ drop count args) (is_own : own ≡ tuple_args_count pattern (length run)) where

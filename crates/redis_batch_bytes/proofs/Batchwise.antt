@@ -5,7 +5,7 @@ use Rattle.std.specs.Prelude.{nat_eq, slice_get}
 use Rattle.std.specs.List.{concat}
 use Rattle.std.proofs.lemmas.Bool.{eqb-true}
 use Rattle.std.proofs.lemmas.Bool.Decides.{nat_tests}
-use Rattle.std.proofs.lemmas.List.{length-append, length-map, map-append, take_all}
+use Rattle.std.proofs.lemmas.List.{length-append, length-map, map-append}
 use Rattle.std.proofs.lemmas.List.Elements.{All-contains}
 use Rattle.std.proofs.lemmas.Option.{same_Some, slice_get-map}
 use Rattle.resp_core.specs.Answer.{Answer, answer_of}
@@ -26,7 +26,7 @@ use Rattle.redis_batch_bytes.specs.declared.fault.BatchFault.TheVariants as faul
 use Rattle.redis_batch_bytes.specs.Plans.{EachIsSent}
 use Rattle.redis_batch_bytes.specs.Replies.{BatchesAreAnswered, AreByBatch, AreTold, AreUnwritten, IsUncombinedBy, StandAsTold}
 use Rattle.redis_batch_bytes.specs.Told.{answer_of_wire}
-use Rattle.redis_batch_bytes.specs.Unread.{AnswersAreFollowed, AreUnreadAnswers, IsFirstNoAnswer, IsFirstUnreadBatch, IsUnreadAnswer}
+use Rattle.redis_batch_bytes.specs.Unread.{AreUnreadAnswers}
 use Rattle.redis_batch_bytes.proofs.Fronts.{more_stand}
 use Rattle.redis_batch_bytes.proofs.Lists.{are_for, concat_more, same_lists, split_right, within}
 
@@ -44,10 +44,6 @@ more_told bytes rest after given own so_far next =
 
 pub none_told : (bytes : List ℕ) → StandAsTold bytes bytes []
 none_told bytes = record { said = []; front = []; bytes_are = refl; are = refl; given_are = refl }
-
--- how many were said
-pub said_long : (bytes rest : List ℕ) (given : List Answer) (stand : StandAsTold bytes rest given) → length stand.said ≡ length given
-said_long bytes rest given stand = sym (ap length stand.given_are ∙ length-map stand.said answer_of_wire)
 
 -- after so many batches
 pub record SoFar (places : List (List ℕ)) (answers : List (Result Value ErrorParts)) (count : ℕ) (bytes rest : List ℕ) : Type 0 where
@@ -108,35 +104,6 @@ has_all batches answers bytes told_are sent room all by =
     (λ n inside.
     let s = sent n (omega (arith, room, inside)) in
     All-contains (IsRight answers all) s.1 n (told_are.right all (by.0 ∙ sym room) by.1 s.0 s.1 s.2) s.3)
-
--- ---- the fault
-
-first_unread : (places : List (List ℕ)) (answers : List (Result Value ErrorParts)) (count : ℕ) (bytes rest own : List ℕ) (fault : BatchFault) → SoFar places answers count bytes rest → slice_get places count ≡ Some own
-    → IsFirstNoAnswer count (length own) rest fault → IsFirstUnreadBatch places bytes fault
-first_unread places answers count bytes rest own fault so_far at next = grind (arith, common_steps)
-
-pub unread : (places : List (List ℕ)) (answers : List (Result Value ErrorParts)) (count : ℕ) (bytes rest own : List ℕ) (fault : BatchFault) → SoFar places answers count bytes rest → slice_get places count ≡ Some own
-    → IsUnreadAnswer count (length own) rest fault → AreUnreadAnswers places bytes fault
-unread places answers count bytes rest own faults.Memory so_far at next = tt
-unread places answers count bytes rest own (faults.Request n f) so_far at next = first_unread places answers count bytes rest own (faults.Request n f) so_far at next
-unread places answers count bytes rest own (faults.NotRoutable n) so_far at next = first_unread places answers count bytes rest own (faults.NotRoutable n) so_far at next
-unread places answers count bytes rest own (faults.NotCovered n s) so_far at next = first_unread places answers count bytes rest own (faults.NotCovered n s) so_far at next
-unread places answers count bytes rest own (faults.Reply b n f) so_far at next = first_unread places answers count bytes rest own (faults.Reply b n f) so_far at next
-unread places answers count bytes rest own (faults.AfterReplies n) so_far at next = absurd next.next
-unread places answers count bytes rest own (faults.NoForm n) so_far at next = first_unread places answers count bytes rest own (faults.NoForm n) so_far at next
-
-pub followed : (places : List (List ℕ)) (answers : List (Result Value ErrorParts)) (count : ℕ) (bytes rest : List ℕ) → SoFar places answers count bytes rest → length places ≤ count → 0 < length rest
-    → AnswersAreFollowed (length (concat places)) bytes (length bytes - length rest)
-followed places answers count bytes rest so_far every some = record {
-  said = so_far.stand.said;
-  front = so_far.stand.front;
-  rest = rest;
-  bytes_are = so_far.stand.bytes_are;
-  are = so_far.stand.are;
-  all = said_long bytes rest so_far.given so_far.stand ∙ so_far.long ∙ ap (λ (l : List (List ℕ)). length (concat l)) (take_all count places every);
-  end_is = omega (arith, ap (length {A = ℕ}) so_far.stand.bytes_are, length-append so_far.stand.front rest);
-  more = some;
-}
 
 -- ---- the replies
 

@@ -1,6 +1,5 @@
 -- Items that stand at the front of some bytes, one after the other.
-use Rattle.std.proofs.Common.{◌≡◌, ◌+◌, ℕ, List, [], ◌∷◌, ◌++◌, length, append_assoc, append-nil, refl, sym, ap, subst, ◌∙◌}
-use Rattle.std.proofs.lemmas.List.{length-append}
+use Rattle.std.proofs.Common.{◌≡◌, ◌+◌, ℕ, List, [], ◌∷◌, ◌++◌, append_assoc, append-nil, refl, sym, ap, subst, ◌∙◌}
 use Rattle.resp.specs.Forms.{InOrder}
 
 module _ {X : Type 0} (Each : X → List ℕ → Type 0) where
@@ -24,9 +23,6 @@ module _ {X : Type 0} (Each : X → List ℕ → Type 0) where
     pub bytes_are : bytes ≡ front ++ rest
     pub are : InOrder Each xs front
 
-  pub none_stand : (bytes : List ℕ) → Stand bytes bytes []
-  none_stand bytes = record { front = []; bytes_are = refl; are = refl }
-
   -- some more behind them
   pub more_stand : (bytes rest after form : List ℕ) (xs ys : List X) → Stand bytes rest xs → rest ≡ form ++ after → InOrder Each ys form → Stand bytes after (xs ++ ys)
   more_stand bytes rest after form xs ys so_far next are = record {
@@ -37,7 +33,3 @@ module _ {X : Type 0} (Each : X → List ℕ → Type 0) where
 
   pub one_more_stands : (bytes rest after form : List ℕ) (xs : List X) (x : X) → Stand bytes rest xs → rest ≡ form ++ after → Each x form → Stand bytes after (xs ++ x ∷ [])
   one_more_stands bytes rest after form xs x so_far next is = more_stand bytes rest after form xs (x ∷ []) so_far next (in_order-one x form is)
-
-  -- how long what stands there is
-  pub left_at : (bytes rest : List ℕ) (xs : List X) (so_far : Stand bytes rest xs) → length bytes ≡ length so_far.front + length rest
-  left_at bytes rest xs so_far = ap (length {A = ℕ}) so_far.bytes_are ∙ length-append so_far.front rest

@@ -1,5 +1,5 @@
 -- The answers to the parts of a command, taken out of a list from its end.
-use Rattle.std.proofs.Common.{◌≡◌, ◌<◌, ◌≤◌, ℕ, List, [], ◌∷◌, ◌++◌, Ok, Err, Result, refl, sym, ap, ◌∙◌, arith, length, map, reverse}
+use Rattle.std.proofs.Common.{◌≡◌, List, [], ◌∷◌, ◌++◌, Ok, Err, Result, refl, sym, ap, ◌∙◌, arith, length, map, reverse}
 use Rattle.std.proofs.lemmas.List.{length-map, reverse-append, length-reverse}
 use Rattle.std.specs.declared.alloc.Global.{Global}
 use Rattle.std.specs.Result.{result_map_both}
@@ -10,10 +10,6 @@ use Rattle.resp_core.specs.ErrorParts.{ErrorParts}
 use Rattle.resp_core.specs.Reply.{Reply}
 use Rattle.resp_core.specs.declared.value.Value.{Value}
 use Rattle.redis_batches.specs.Replies.{all_replies, values_among}
-
--- none is left only where as many were taken out
-pub none_left : {X : Type 0} (all left own : List X) (count : ℕ) → all ≡ left ++ reverse own → left ≡ [] → length own < count → count ≤ length all → ⊥
-none_left all left own count is none few room = grind (arith, common_steps)
 
 -- one reply more in front, unless there was an error
 abbrev pub with_reply : Reply → Result (List Reply) ErrorParts → Result (List Reply) ErrorParts

@@ -1,9 +1,9 @@
 -- What is kept of the commands of a pipeline, and what they mean.
-use Rattle.std.proofs.Common.{◌≡◌, ◌<◌, ◌+◌, ℕ, true, List, [], ◌∷◌, ◌++◌, Option, Some, None, All, refl, sym, ap, subst, ◌∙◌, length, map, take, get_or, arith}
+use Rattle.std.proofs.Common.{◌≡◌, ◌<◌, ◌+◌, ℕ, true, List, [], ◌∷◌, ◌++◌, Option, Some, None, All, refl, sym, ap, ◌∙◌, length, map, take, get_or, arith}
 use Rattle.std.proofs.lemmas.Grind.{common_steps}
 use Rattle.std.specs.List.{AllZip, flat_map, list_any, zip}
 use Rattle.std.specs.Option.{option_or}
-use Rattle.std.specs.Prelude.{IfSome, nat_eq, option_map}
+use Rattle.std.specs.Prelude.{nat_eq, option_map}
 use Rattle.std.proofs.Math.Path.{fun_ext}
 use Rattle.std.proofs.lemmas.List.{map-append, take_more}
 use Rattle.std.proofs.lemmas.List.Elements.{All-map, All-weaker}
@@ -95,10 +95,6 @@ kept_split names args split arguments routes pattern policy held own =
       (found.0, refl, found.2, own),
       sym (map_map (λ (part : SlotPart). part.1) (λ slot. (slot, split_part split slot)) (slots_of split.routes)) ∙ found.3,
     )
-
--- what holds of an option that is there
-pub of_some : {X : Type 0} (P : X → Type 0) (o : Option X) (x : X) → o ≡ Some x → IfSome o P → P x
-of_some P o x is holds = subst (λ v. IfSome v P) is holds
 
 -- one more is kept
 pub kept_next : {X Y : Type 0} (R : X → Y → Type 0) (xs : List X) (ys more : List Y) (i : ℕ) (x : X) (y : Y) → i < length xs → x ≡ get_or xs i x → more ≡ ys ++ y ∷ []

@@ -28,7 +28,6 @@ pub mod Asked
 pub mod Given
 pub mod Errors
 pub mod Untaken
-pub mod Counting
 pub mod Driving
 pub mod Again
 pub mod GoOn

@@ -1,12 +1,12 @@
 -- The plan of a pipeline over commands: what its parts mean, and the one node of each slot.
-use Rattle.std.proofs.Common.{◌≡◌, ◌≤◌, ℕ, zero, suc, List, [], ◌∷◌, ◌++◌, Bool, true, false, cond, Some, All, refl, sym, ap, subst, ◌∙◌, arith, map, length, get_or}
+use Rattle.std.proofs.Common.{◌≡◌, ◌≤◌, ℕ, suc, List, [], ◌∷◌, ◌++◌, Bool, true, false, cond, Some, All, refl, sym, ap, subst, ◌∙◌, arith, map, length}
 use Rattle.std.specs.Prelude.{nat_eq}
 use Rattle.std.specs.List.{AllZip, flat_map, list_any, sum_by}
 use Rattle.std.proofs.lemmas.Bool.{eqb-true}
 use Rattle.std.proofs.lemmas.List.{length-map, map-append}
 use Rattle.std.proofs.lemmas.List.Elements.{All-nil, All-cons, All-head, All-tail, All-weaker}
 use Rattle.std.proofs.lemmas.Grind.{common_steps}
-use Rattle.resp_core.proofs.Cases.{by_test, or_second}
+use Rattle.resp_core.proofs.Cases.{by_test}
 use Rattle.cluster_slots.specs.Address.{Address}
 use Rattle.cluster_slots.specs.KeySlot.{key_slot}
 use Rattle.redis_routing.specs.Names.{Names}
@@ -17,7 +17,6 @@ use Rattle.redis_routing.proofs.SelfRouting.{all_there}
 use Rattle.redis_cluster.specs.MultiKey.{KeyTuple, MultiKey, slots_in}
 use Rattle.redis_cluster.specs.Orders.{times}
 use Rattle.redis_cluster.proofs.Constructors.{same_head, same_some, same_tail}
-use Rattle.redis_cluster.proofs.Counts.{same_number}
 use Rattle.redis_batches.specs.Pipeline.{AreSlotsOf, HasSlots, Part, Planned, Task, over_keys, in_slot, part, parts_of}
 use Rattle.redis_batches.specs.Batched.{AreBatches}
 use Rattle.redis_batches.specs.Taken.{task_of}
@@ -33,6 +32,7 @@ use Rattle.redis_batches.specs.declared.task.CommandTask.{CommandTask}
 use Rattle.redis_batches.specs.declared.task.CommandTask.TheVariants.{InSlot, OverKeys}
 use Rattle.redis_batches.proofs.ByNode.{by_node_batches}
 use Rattle.redis_batches.proofs.Commands.{task_by, tasks_from}
+use Rattle.redis_cluster.proofs.SplitParts.{listed}
 
 -- what is sent is the part of the pipeline
 abbrev IsPartOf : Registrations → SlotPart → Part → Type 0
@@ -202,12 +202,6 @@ pub first_fault : (registered : Registrations) (has has_none : ℕ → Type 0) (
     → IsFirstWithout has has_none (map slots_kept kept) number slot → (tasks : List Task) × AreTasksOf registered commands tasks × IsFirstWithout has has_none (map slots_of_task tasks) number slot
 first_fault registered has has_none commands kept number slot each is = grind (arith, common_steps, tasks_from, all_slots_of_kept)
 
--- a number stands among those of some things, of which it is one's
-all_here : {X : Type 0} (number : X → ℕ) (xs : List X) → All (λ x. list_any (nat_eq (number x)) (map number xs) ≡ true) xs
-all_here number [] k d inside = absurd (omega arith)
-all_here number (x ∷ xs) zero d inside = rw (same_number (number x)) refl
-all_here number (x ∷ xs) (suc k) d inside = or_second (nat_eq (number (get_or xs k d)) (number x)) _ (all_here number xs k d (omega arith))
-
 one_at_most : (b : Bool) → cond b 1 0 ≤ 1
 one_at_most true = omega arith
 one_at_most false = omega arith
@@ -219,7 +213,7 @@ has_slots command =
     let ns : List ℕ = map slot command.tuples in
     record {
       apart = λ s. subst (λ n. n ≤ 1) (sym (count_firsts s ns)) (one_at_most (list_any (nat_eq s) ns));
-      each = All-weaker (λ t. list_any (nat_eq (slot t)) ns ≡ true) (λ t. times (slot t) (slots_in command) ≡ 1) (λ t there. count_firsts (slot t) ns ∙ ap (λ b. cond b 1 0) there) command.tuples (all_here slot command.tuples);
+      each = All-weaker (λ t. list_any (nat_eq (slot t)) ns ≡ true) (λ t. times (slot t) (slots_in command) ≡ 1) (λ t there. count_firsts (slot t) ns ∙ ap (λ b. cond b 1 0) there) command.tuples (listed slot command.tuples);
     }
 
 slots_of_one : (task : Task) → AreSlotsOf task (slots_of_task task)

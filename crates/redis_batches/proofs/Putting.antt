@@ -4,7 +4,7 @@ use Rattle.std.specs.Prelude.{nat_eq, slice_get, slice_index, slice_set}
 use Rattle.std.proofs.lemmas.Bool.{eqb-true}
 use Rattle.std.proofs.lemmas.List.{drop_more, length-set, length_push, map-set}
 use Rattle.std.proofs.lemmas.List.Elements.{All-cons, All-head, All-nil, All-tail}
-use Rattle.std.proofs.lemmas.Option.{same_Some, slice_get-map, slice_get_read}
+use Rattle.std.proofs.lemmas.Option.{slice_get-map, slice_get_read}
 use Rattle.std.proofs.lemmas.Grind.{common_steps}
 use Rattle.resp_core.specs.Answer.{Answer, answer_of}
 use Rattle.resp_core.proofs.Cases.{by_test}
@@ -13,6 +13,7 @@ use Rattle.resp_core.specs.declared.value.Value.{Value}
 use Rattle.redis_cluster.proofs.Counts.{same_number}
 use Rattle.redis_cluster.proofs.Sending.{set_here, set_there}
 use Rattle.redis_batches.specs.Batched.{IsRight, put_at}
+use Rattle.cluster_map.proofs.Places.{drop-found}
 
 -- the elements before the last, and the last
 pub get_front : {X : Type 0} (xs ys : List X) (i : ℕ) → i < length xs → slice_get (xs ++ ys) i ≡ slice_get xs i
@@ -23,12 +24,6 @@ get_front (x ∷ xs) ys (suc i) within = get_front xs ys i (omega arith)
 pub get_last : {X : Type 0} (xs : List X) (x : X) → slice_get (xs ++ x ∷ []) (length xs) ≡ Some x
 get_last [] x = refl
 get_last (y ∷ xs) x = get_last xs x
-
--- what is left of a list from an element on
-drop_there : {X : Type 0} (xs : List X) (n : ℕ) (x : X) → slice_get xs n ≡ Some x → drop n xs ≡ x ∷ drop (suc n) xs
-drop_there [] n x at = absurd (cc at)
-drop_there (y ∷ xs) zero x at = ap (λ z. z ∷ xs) (same_Some y x at)
-drop_there (y ∷ xs) (suc n) x at = drop_there xs n x at
 
 -- what is made of each stands at the same places
 pub map-put_at : {X Y : Type 0} (f : X → Y) (all : List X) (places : List ℕ) (xs : List X) → map f (put_at all places xs) ≡ put_at (map f all) places (map f xs)
@@ -96,7 +91,7 @@ put_one out now given left rest answer places are is more =
     sym (are.front (length rest) (omega (arith, more))) ∙ ap (λ l. slice_get l (length rest)) is ∙ get_last rest answer in
     record {
       put = ap (λ l. slice_set l place answer) (are.put ∙ ap (λ n. put_at out (drop n places) (drop n given)) more)
-          ∙ sym (ap (λ l. put_at out l (drop (length rest) given)) (drop_more places (length rest) 0 inside) ∙ ap (put_at out (place ∷ drop (length rest + 1) places)) (drop_there given (length rest) answer there ∙ ap (λ m. answer ∷ drop m given) next));
+          ∙ sym (ap (λ l. put_at out l (drop (length rest) given)) (drop_more places (length rest) 0 inside) ∙ ap (put_at out (place ∷ drop (length rest + 1) places)) (drop-found given (length rest) answer there ∙ ap (λ m. answer ∷ drop m given) next));
       len = length-set now place answer ∙ are.len;
       few = omega (arith, more, are.few);
       front = λ i under. sym (get_front rest (answer ∷ []) i under) ∙ ap (λ l. slice_get l i) (sym is) ∙ are.front i (omega (arith, more, under));

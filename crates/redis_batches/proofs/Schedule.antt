@@ -10,7 +10,7 @@ use Rattle.redis_cluster.specs.Unsplit.{Keyspace}
 use Rattle.redis_cluster.proofs.Counts.{same_number}
 use Rattle.redis_batches.specs.Served.{Effect, Agree, IsLocal}
 use Rattle.redis_batches.specs.Turns.{all_after, answers, of_slot}
-use Rattle.redis_batches.proofs.Lists.{filter_inside, all_by_slot}
+use Rattle.redis_batches.proofs.Lists.{all_by_slot}
 
 -- a key of one slot is not one of another
 other_slot : (k x s : ℕ) → nat_eq k s ≡ true → nat_eq x s ≡ false → nat_eq k x ≡ false
@@ -64,14 +64,3 @@ module _ {C R X : Type 0} (slot : X → ℕ) (effect : X → Effect C R) where
     pub answers_hold : (P : X × R → Type 0) → All P (answers effect xs ks) → All P (answers effect ys ks)
     answers_hold P all = all_by_slot (λ (a : X × R). slot a.0) P (answers effect ys ks)
         (λ s. subst (All P) (one_answers s) (All-filter (λ (a : X × R). nat_eq (slot a.0) s) P (answers effect xs ks) all))
-
--- Where the slots decide the batches, any order of all, in which each batch stays in its own, keeps the order of each slot.
-pub interleaved : {X : Type 0} (slot : X → ℕ) (batch : ℕ → ℕ) (xs ys : List X)
-    → ((n : ℕ) → of_slot (λ x. batch (slot x)) n xs ≡ of_slot (λ x. batch (slot x)) n ys)
-    → (s : ℕ) → of_slot slot s xs ≡ of_slot slot s ys
-interleaved slot batch xs ys same s =
-    let under : (x : _) → nat_eq (slot x) s ≡ true → nat_eq (batch (slot x)) (batch s) ≡ true =
-    λ x own. ap (λ n. nat_eq (batch n) (batch s)) (eqb-true (slot x) s own) ∙ same_number (batch s) in
-    sym (filter_inside (λ x. nat_eq (slot x) s) (λ x. nat_eq (batch (slot x)) (batch s)) under xs)
-    ∙ ap (of_slot slot s) (same (batch s))
-    ∙ filter_inside (λ x. nat_eq (slot x) s) (λ x. nat_eq (batch (slot x)) (batch s)) under ys

@@ -3,7 +3,6 @@ use Rattle.std.proofs.Common.{◌≡◌, ◌<◌, ◌≤◌, ℕ, ◌+◌, zero,
 use Rattle.std.specs.Prelude.{slice_get}
 use Rattle.std.specs.List.{enumerate_from}
 use Rattle.std.specs.Option.{option_to_list}
-use Rattle.std.proofs.lemmas.Bool.Decides.{nat_tests}
 use Rattle.std.proofs.lemmas.Grind.{flat_map-append}
 use Rattle.std.proofs.lemmas.List.{drop_more, take-append-drop}
 use Rattle.std.proofs.lemmas.List.Elements.{All-nil, All-cons, All-head, All-tail}
@@ -76,11 +75,6 @@ module _ {X : Type 0} (batch : X → ℕ) (xs : List X) (order : List ℕ) (i k 
       ap (λ o. batch_by_batch batch o xs) (sym (take-append-drop i order))
       ∙ flat_map-append (λ j. of_slot batch j xs) (take i order) (drop i order)
       ∙ ap (λ o. batch_by_batch batch (take i order) xs ++ batch_by_batch batch o xs) (drop_more order i 0 within ∙ ap (λ j. j ∷ drop (i + 1) order) (sym is))
-
--- no batch past the last has a part
-pub none_past : {X : Type 0} (batch : X → ℕ) (count k : ℕ) → count ≤ k → (xs : List X) → All (λ x. batch x < count) xs → of_slot batch k xs ≡ []
-none_past batch count k past [] below = refl
-none_past batch count k past (x ∷ xs) below = grind (arith, common_steps, All-head, nat_tests, All-tail, none_past batch count k past xs (All-tail (λ y. batch y < count) x xs below))
 
 -- answers that stand at numbers, by those that were given
 pub are_for : (expected : List Answer) (given : List (Numbered × Answer)) (replies : List (Result Value ErrorParts))

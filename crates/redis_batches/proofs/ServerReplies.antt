@@ -15,17 +15,16 @@ use Rattle.redis_cluster.specs.SlotItems.{items_of_slot}
 use Rattle.redis_cluster.specs.Unsplit.{Step, Keyspace, act_of, reply_by, reply_to, results_of}
 use Rattle.redis_cluster.proofs.Constructors.{same_head, same_some, same_tail}
 use Rattle.redis_cluster.proofs.Joined.{outcome_is}
-use Rattle.redis_cluster.proofs.Made.{made_of_command}
 use Rattle.redis_cluster.proofs.Parts.{length-results}
 use Rattle.redis_cluster.proofs.SplitTuples.{ShareOut, command_shares}
 use Rattle.redis_batches.specs.Pipeline.{Serve, Task, over_keys, in_slot, run, part_answer, piece_answers}
 use Rattle.redis_batches.specs.Turns.{all_after, answers}
-use Rattle.redis_batches.specs.Tasks.{AreSplitsFor, AreSplitsOf, IsSplitAs, IsSplitOfTask, slots_of_task, with_slots}
+use Rattle.redis_batches.specs.Tasks.{AreSplitsFor, AreSplitsOf, IsSplitAs, slots_of_task, with_slots}
 use Rattle.redis_batches.specs.CommandTask.{IsKeptOf, IsTaskFor, split_in}
 use Rattle.redis_batches.specs.declared.task.CommandTask.{CommandTask}
 use Rattle.redis_batches.specs.declared.task.CommandTask.TheVariants.{InSlot, OverKeys}
 use Rattle.redis_batches.proofs.Answered.{with_reply}
-use Rattle.redis_batches.specs.Replies.{AreRepliesTo, IsReplyTo, IsSplitReply, all_replies, as_outcome, part_count}
+use Rattle.redis_batches.specs.Replies.{AreRepliesTo, IsReplyTo, all_replies, as_outcome, part_count}
 
 -- what is kept of a command has its split
 split_of_kept : (registered : Registrations) (task : Task) (kept : CommandTask) → IsKeptOf registered task kept → IsSplitAs registered (split_in kept) task
@@ -59,12 +58,6 @@ answer_is (Err error) reply is = absurd (cc is)
 abbrev pub IsReplyByParts : MultiKey → Result (List Reply) ErrorParts → Answer → Type 0
 IsReplyByParts command found answer =
     MatchResult found (λ replies. IsOutcome command.tuples (slots_in command) replies command.form (as_outcome answer)) (λ error. answer ≡ Err error)
-
--- The reply to a command is made of the answers to its parts, if it is made so by its split.
-pub split_reply : (registered : Registrations) (split : Split) (command : MultiKey) → IsSplitOfTask registered command split → (found : Result (List Reply) ErrorParts) (answer : Answer)
-    → IsSplitReply split found answer → IsReplyByParts command found answer
-split_reply registered split command is (Ok replies) answer made = made_of_command split command is.split_is is.form is.tuples replies (as_outcome answer) made
-split_reply registered split command is (Err error) answer made = made
 
 -- the slots of a command over many keys share out its tuples
 abbrev pub IsShared : Task → Type 0

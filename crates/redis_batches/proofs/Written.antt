@@ -1,8 +1,6 @@
 -- The slots that a pipeline may write to are gathered command by command.
-use Rattle.std.proofs.Common.{◌≡◌, ◌<◌, ◌+◌, ℕ, zero, suc, Bool, true, cond, List, [], ◌∷◌, ◌++◌, refl, sym, ap, ◌∙◌, arith, length, take, get_or}
-use Rattle.std.specs.Prelude.{nat_eq}
+use Rattle.std.proofs.Common.{◌≡◌, ◌<◌, ◌+◌, ℕ, zero, suc, Bool, List, [], ◌∷◌, ◌++◌, refl, sym, ap, ◌∙◌, arith, length, take, get_or}
 use Rattle.std.specs.List.{flat_map, zip}
-use Rattle.std.specs.Ordering.{is_eq, nat_cmp}
 use Rattle.std.specs.declared.alloc.Global.{Global}
 use Rattle.std.specs.declared.vec.Vec.{Vec}
 use Rattle.std.proofs.lemmas.Grind.{flat_map-append}
@@ -11,16 +9,8 @@ use Rattle.std.proofs.lemmas.Grind.{common_steps}
 use Rattle.cluster_slots.specs.SlotRoute.{SlotRoute}
 use Rattle.redis_routing.specs.RoutingInfo.{route_lists}
 use Rattle.redis_routing.specs.Split.{slots_of}
-use Rattle.redis_batches.specs.Chosen.{AreSlots, has_slot, kept_written}
+use Rattle.redis_batches.specs.Chosen.{kept_written}
 use Rattle.redis_batches.specs.declared.task.CommandTask.{CommandTask}
-
--- slots are compared as numbers
-pub same_slot : (a b : ℕ) → is_eq (nat_cmp a b) ≡ nat_eq a b
-same_slot a b = grind (arith, common_steps)
-
--- a slot was put into a set
-pub slot_added : (old new before : List ℕ) (slot : ℕ) → ((q : ℕ) → has_slot new q ≡ cond (is_eq (nat_cmp slot q)) true (has_slot old q)) → AreSlots before old → AreSlots (before ++ slot ∷ []) new
-slot_added old new before slot added are = grind (arith, common_steps)
 
 -- the slot of one route more
 pub route_added : (routes : List (SlotRoute × Vec ℕ Global)) (i slot : ℕ) (route : SlotRoute × Vec ℕ Global) (before : List ℕ) → i < length routes → route ≡ get_or routes i route → slot ≡ route.0.slot

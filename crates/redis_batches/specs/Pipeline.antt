@@ -92,12 +92,6 @@ slot_of x = x.1.slot
 abbrev pub KeepsSlots : List Planned → List Numbered → Type 0
 KeepsSlots ps sent = (slot : ℕ) → of_slot slot_of slot (numbered ps) ≡ of_slot slot_of slot sent
 
--- In this order of parts those of each batch come in the order of the pipeline, each once, and no
--- others come, as where the batches are sent at once.
-abbrev pub IsInterleaved : (ℕ → ℕ) → List Planned → List Numbered → Type 0
-IsInterleaved batch ps sent = (k : ℕ)
-    → of_slot (λ x. batch (slot_of x)) k (numbered ps) ≡ of_slot (λ x. batch (slot_of x)) k sent
-
 -- which parts were refused, and with which error
 abbrev pub Refusals : Type 0
 Refusals = Numbered → Option ErrorParts

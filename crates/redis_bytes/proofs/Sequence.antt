@@ -46,9 +46,6 @@ pub record Goes (all : List Reply) (rest : List ℕ) (replies : List Reply) : Ty
 abbrev pub Only : ℕ → List ℕ → List ℕ → List Reply → Type 0
 Only count bytes rest replies = (all : List Reply) → length all ≡ count → AreReplies all bytes → Goes all rest replies
 
-pub only_none : (count : ℕ) (bytes : List ℕ) → Only count bytes bytes []
-only_none count bytes = λ all long are. record { later = all; all_are = refl; are = are }
-
 -- the reply that stands first in what is left is this one, with this after it
 abbrev pub IsNext : List ℕ → (Reply → List ℕ → Type 0) → Type 0
 IsNext rest Found = (reply : Reply) (form after : List ℕ) → IsReply reply form → rest ≡ form ++ after → Found reply after
@@ -96,10 +93,6 @@ unread count number bytes rest replies (faults.Unfit kind) so_far long few next 
 unread count number bytes rest replies faults.NoForm so_far long few next = absurd next
 unread count number bytes rest replies faults.LineFeedInHost so_far long few next = absurd next
 unread count number bytes rest replies (faults.BadName _) so_far long few next = absurd next
-
--- where the first of the bytes that are left stands
-pub left_at : (bytes rest : List ℕ) (replies : List Reply) (so_far : Stand bytes rest replies) → length bytes ≡ length so_far.front + length rest
-left_at bytes rest replies so_far = ap (length {A = ℕ}) so_far.bytes_are ∙ length-append so_far.front rest
 
 pub followed : (count : ℕ) (bytes rest : List ℕ) (replies : List Reply) → Stand bytes rest replies → length replies ≡ count → 0 < length rest → AreFollowed count bytes (length bytes - length rest)
 followed count bytes rest replies so_far every some = grind (arith, common_steps)

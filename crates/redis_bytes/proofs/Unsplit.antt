@@ -1,30 +1,26 @@
 -- What the replies to the parts of one command make is the reply to the command.
 use Rattle.std.proofs.Common.{◌≡◌, ℕ, List, [], ◌∷◌, ◌++◌, Result, Ok, length, refl, sym, ap, subst, ◌∙◌, arith}
 use Rattle.std.proofs.lemmas.Grind.{common_steps}
-use Rattle.std.proofs.lemmas.List.{length-map}
 use Rattle.resp_core.specs.Reply.{Reply}
 use Rattle.resp.specs.Reading.{answer_at}
 use Rattle.resp.specs.declared.reading.TheConstants.{MAX_LEVELS}
 use Rattle.resp.proofs.Grammar.{answer_again}
-use Rattle.redis_routing.specs.Split.{Split, IsSplit, slots_of}
+use Rattle.redis_routing.specs.Split.{Split, IsSplit}
 use Rattle.redis_cluster.specs.MultiKey.{ReplyForm}
-use Rattle.redis_cluster.specs.Plan.{ArePartsAnswered, IsMadeOfParts, tuples_in_split}
-use Rattle.redis_cluster.specs.SlotItems.{items_of_slot}
+use Rattle.redis_cluster.specs.Plan.{ArePartsAnswered, IsMadeOfParts}
 use Rattle.redis_cluster.specs.Unsplit.{TupleResult, reply_by}
 use Rattle.redis_cluster.proofs.Joined.{outcome_is_unsplit}
 use Rattle.redis_bytes.specs.Replies.{AreReplies, AreCombined, IsReply}
 use Rattle.resp_core.specs.declared.error.ErrorKind.{ErrorKind}
 use Rattle.resp.specs.Forms.{Answer, form}
 use Rattle.resp.specs.declared.fault.Fault.{Fault}
+use Rattle.redis_cluster.proofs.Made.{as_many}
 
 abbrev value_of : Reply → Answer
 value_of reply = Ok reply
 
 abbrev found : Answer → List ℕ → Result (Answer × List ℕ) Fault
 found answer rest = Ok (answer, rest)
-
-abbrev same_pair : Answer → List ℕ → Answer × List ℕ
-same_pair answer rest = (answer, rest)
 
 abbrev made_of : Reply → Result Reply ErrorKind
 made_of reply = Ok reply
@@ -48,10 +44,6 @@ one_reading (r ∷ rs) (s ∷ ss) bytes same are too =
 
 same_value : (r s : Reply) → made_of r ≡ made_of s → r ≡ s
 same_value r s e = cc
-
-as_many : (split : Split) (form : ReplyForm) (results : List TupleResult) (replies : List Reply) → ArePartsAnswered split form results replies → length replies ≡ length split.routes
-as_many split form results replies are =
-    ap length are.replies_are ∙ length-map (slots_of split.routes) (λ slot. reply_by form (items_of_slot slot (tuples_in_split split) results)) ∙ length-map split.routes (λ r. r.0.slot)
 
 pub combined_unsplit : (split : Split) → IsSplit split → (bytes combined : List ℕ) → AreCombined split bytes combined → (reply_form : ReplyForm) (results : List TupleResult) (parts : List Reply)
     → ArePartsAnswered split reply_form results parts → AreReplies parts bytes → combined ≡ form (reply_by reply_form results)

@@ -1,6 +1,5 @@
 -- What stands at the front, by what was read there.
 use Rattle.std.proofs.Common.{◌≡◌, ℕ, List, ◌++◌, Result, Ok, Err}
-use Rattle.resp_core.specs.Reply.{Reply}
 use Rattle.resp.specs.Forms.{Answer}
 use Rattle.resp.specs.Reading.{HasNoAnswer}
 use Rattle.resp.specs.declared.fault.Fault.{Fault}
@@ -11,15 +10,6 @@ Found = Result (Answer × List ℕ) Fault
 
 abbrev found : Answer → List ℕ → Found
 found answer rest = Ok (answer, rest)
-
-abbrev value_of : Reply → Answer
-value_of reply = Ok reply
-
-same_reply : (r s : Reply) → value_of r ≡ value_of s → r ≡ s
-same_reply r s e = cc
-
-no_error : (r : Reply) (text : List ℕ) → Ok r ≡ Err text → ⊥
-no_error r text e = absurd cc
 
 no_fault : (p : Answer × List ℕ) (fault : Fault) → found p.0 p.1 ≡ Err fault → ⊥
 no_fault p fault e = absurd cc

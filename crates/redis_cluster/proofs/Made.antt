@@ -1,5 +1,5 @@
 -- The outcome of joining the replies to a split's parts: a value, or an error.
-use Rattle.std.proofs.Common.{◌≡◌, ◌⊎◌, List, Result, Ok, Err, Some, MatchResult, length, map, inl, inr, ◌∙◌, ⊎_elim, arith}
+use Rattle.std.proofs.Common.{◌≡◌, ◌⊎◌, List, Result, Ok, Err, Some, MatchResult, length, map, inl, inr, ◌∙◌, ⊎_elim, arith, ap}
 use Rattle.std.proofs.lemmas.List.{length-map}
 use Rattle.std.proofs.lemmas.Result.{MatchResult-weaker}
 use Rattle.resp_core.specs.ErrorParts.{ErrorParts, out_of_memory}
@@ -7,7 +7,7 @@ use Rattle.resp_core.specs.Reply.{Reply}
 use Rattle.resp_core.specs.View.{view}
 use Rattle.resp_core.specs.declared.error.ErrorKind.{ErrorKind}
 use Rattle.resp_core.specs.declared.value.Value.{Value}
-use Rattle.redis_routing.specs.Split.{Split, IsSplit}
+use Rattle.redis_routing.specs.Split.{Split, IsSplit, slots_of}
 use Rattle.redis_routing.specs.declared.policy.ResponsePolicy.TheVariants.{CombineArrays}
 use Rattle.redis_cluster.specs.MultiKey.{MultiKey, ReplyForm, list, form_by_policy, slots_in}
 use Rattle.redis_cluster.specs.Joined.{IsOutcome}
@@ -16,6 +16,7 @@ use Rattle.redis_cluster.specs.Unsplit.{TupleResult, reply_by}
 use Rattle.redis_cluster.proofs.Joined.{Outcome, arrays_make_lists, outcome_is_unsplit}
 use Rattle.redis_cluster.proofs.SplitParts.{form_of_joining}
 use Rattle.redis_cluster.proofs.SplitTuples.{slots_of_split}
+use Rattle.redis_cluster.specs.SlotItems.{items_of_slot}
 
 -- a value is made of the replies, or memory ran out for a list, or they are refused
 abbrev pub IsMadeOr : Split → List Reply → Result Value ErrorParts → Type 0
@@ -34,6 +35,10 @@ made_of_parts split held replies many result each =
     MatchResult-weaker result (each own.0 own.1)
     (λ value is. record { each = length-map replies view ∙ many; form = own.0; form_is = own.1; outcome_is = is })
     (λ error. ⊎_elim (λ memory. inl memory) (λ refused. inr (record { each = length-map replies view ∙ many; form = own.0; form_is = own.1; outcome_is = refused })))
+
+-- there are as many replies as parts
+pub as_many : (split : Split) (form : ReplyForm) (results : List TupleResult) (replies : List Reply) → ArePartsAnswered split form results replies → length replies ≡ length split.routes
+as_many split form results replies are = ap length are.replies_are ∙ length-map (slots_of split.routes) (λ slot. reply_by form (items_of_slot slot (tuples_in_split split) results)) ∙ length-map split.routes (λ r. r.0.slot)
 
 -- replies to the parts of one command are not refused
 pub unsplit_of_parts : (split : Split) → IsSplit split → (form : ReplyForm) (results : List TupleResult) (replies : List Value) → ArePartsAnswered split form results (map view replies)

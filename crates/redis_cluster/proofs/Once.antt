@@ -74,10 +74,6 @@ twice (x ∷ xs) i zero d l m same = absurd (omega arith)
 twice (x ∷ xs) zero (suc j) d l m same = grind (arith, common_steps)
 twice (x ∷ xs) (suc i) (suc j) d l m same = grind (arith, common_steps, twice xs i j d (omega arith) (omega arith) same)
 
--- An order with a number twice doesn't name each number once.
-pub repeated : (n : ℕ) (order : List ℕ) (i j d : ℕ) → i < j → j < length order → get_or order i d ≡ get_or order j d → NamesOnce n order → ⊥
-repeated n order i j d l m same names = omega (arith, twice order i j d l m same, names_once-apart n order names (get_or order i d))
-
 -- An order with a number that is not below n doesn't name each number once.
 pub too_large : (n : ℕ) (order : List ℕ) (i d : ℕ) → i < length order → n ≤ get_or order i d → NamesOnce n order → ⊥
 too_large n order i d l large names = omega (arith, names.below i d l)

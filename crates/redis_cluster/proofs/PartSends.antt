@@ -1,5 +1,5 @@
 -- What one send more leaves of a part, after attempts that left the keyspace as it was.
-use Rattle.std.proofs.Common.{◌≡◌, ◌∷◌, ◌++◌, [], ◌∙◌, List, Option, Some, IfSome, ap, subst, map, arith}
+use Rattle.std.proofs.Common.{◌≡◌, ◌∷◌, ◌++◌, [], List, Some, IfSome, map, arith}
 use Rattle.std.proofs.lemmas.Grind.{common_steps}
 use Rattle.resp_core.specs.Reply.{Reply}
 use Rattle.resp_core.specs.View.{view}
@@ -7,7 +7,7 @@ use Rattle.resp_core.specs.declared.value.Value.{Value}
 use Rattle.cluster_slots.specs.Address.{Address}
 use Rattle.redis_cluster.specs.Attempts.{Try, AttemptsOf}
 use Rattle.redis_cluster.specs.Frame.{SameNodes}
-use Rattle.redis_cluster.specs.MultiKey.{MultiKey, multi_key}
+use Rattle.redis_cluster.specs.MultiKey.{multi_key}
 use Rattle.redis_cluster.specs.PartSends.{IsPartAnswered, IsPartUnanswered}
 use Rattle.redis_cluster.specs.Sent.{IsLeft, IsUnanswered, ending_of}
 use Rattle.redis_cluster.specs.Trace.{answered}
@@ -17,10 +17,6 @@ use Rattle.redis_cluster.specs.declared.nodes.SendError.{SendError}
 
 module _ {S : Type 0} (N : Ghosts S) (try : Try) (old mid new : S) (frame : SameNodes N old mid) (stands : N.kept mid → (N.state mid).keyspace ≡ (N.state old).keyspace)
     (gave : (replies : List Reply) → N.gave old replies → N.gave mid replies) (kept : N.kept new → N.kept mid) where
-  -- what is said of the part's command
-  of_command : (P : MultiKey → Type 0) (command : MultiKey) → multi_key (N.registered old) (map Some try.part) ≡ Some command → IfSome (multi_key (N.registered mid) (map Some try.part)) P → P command
-  of_command P command is said = subst (λ (o : Option MultiKey). IfSome o P) (ap (λ registered. multi_key registered (map Some try.part)) frame.registered ∙ is) said
-
   pub answered_then : (value : Value) → AttemptsOf try (Some answered) (N.state old).trace (N.state new).trace → ((replies : List Reply) → N.gave mid replies → N.gave new (replies ++ view value ∷ []))
       → IfSome (multi_key (N.registered mid) (map Some try.part)) (λ command. N.kept new → view value ≡ reply_to N.step command (N.state mid).keyspace)
       → IfSome (multi_key (N.registered mid) (map Some try.part)) (λ command. N.kept new → (N.state new).keyspace ≡ keyspace_after N.step command (N.state mid).keyspace) → IsPartAnswered N try old new value

@@ -47,21 +47,6 @@ items_of_slot_from all (r ∷ rs) n slot (t ∷ ts) l at =
 pub items_of_slot_is : {X : Type 0} (slot : ℕ) (ts : List KeyTuple) (rs : List X) → length rs ≡ length ts → items_of_slot slot ts rs ≡ in_order rs (numbers_of_slot slot ts)
 items_of_slot_is slot ts rs l = items_of_slot_from rs rs 0 slot ts l (λ k. ap (slice_get rs) (omega arith))
 
--- the tuples of a slot, where the first is number n of all
-part_from : (all : List KeyTuple) (n slot : ℕ) (ts : List KeyTuple) → ((k : ℕ) → slice_get all (n + k) ≡ slice_get ts k)
-    → tuples_of_slot slot ts ≡ in_order all (numbers_from slot n ts)
-part_from all n slot [] at = refl
-part_from all n slot (t ∷ ts) at =
-    let first : slice_get all n ≡ Some t = ap (slice_get all) (omega arith) ∙ at 0 in
-    let rest : tuples_of_slot slot ts ≡ in_order all (numbers_from slot (n + 1) ts) = part_from all (n + 1) slot ts (λ k. ap (slice_get all) (omega arith) ∙ at (suc k)) in
-    by_test (nat_eq (key_slot t.key) slot)
-    (λ here. rw here (ap (λ xs. t ∷ xs) rest ∙ sym (taken_here all n t (numbers_from slot (n + 1) ts) first)))
-    (λ there. rw there rest)
-
--- The tuples of a slot are those at its numbers.
-pub part_is : (slot : ℕ) (ts : List KeyTuple) → tuples_of_slot slot ts ≡ in_order ts (numbers_of_slot slot ts)
-part_is slot ts = part_from ts 0 slot ts (λ k. ap (slice_get ts) (omega arith))
-
 -- as many numbers are counted on as the slot has tuples
 length-numbers : (n slot : ℕ) (ts : List KeyTuple) → length (numbers_from slot n ts) ≡ length (tuples_of_slot slot ts)
 length-numbers n slot [] = refl

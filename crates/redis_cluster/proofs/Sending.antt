@@ -25,7 +25,8 @@ use Rattle.std.proofs.Common.{append_assoc, ◌++◌}
 use Rattle.std.proofs.lemmas.Grind.{common_steps}
 use Rattle.redis_cluster.proofs.Once.{times_more, times-take, names_once-apart}
 use Rattle.redis_cluster.specs.Sends.{Target, SlotsTookEffect}
-use Rattle.redis_cluster.proofs.Constructors.{same_some, same_head, same_tail}
+use Rattle.redis_cluster.proofs.Constructors.{same_some}
+use Rattle.redis_cluster.proofs.Told.{same_told}
 
 -- the slot of a route, and where its part goes, which is that of the slot
 pub record RouteTarget (registered : Registrations) (command : MultiKey) (slots : List ℕ) (nodes : List Address) (parts : List (List (List ℕ))) (number : ℕ) : Type 0 where
@@ -169,19 +170,12 @@ pub given_more : (old mid new : List Reply → Type 0) (replies : List (Option V
     → ((before : List Reply) → mid before → new (before ++ view value ∷ [])) → AreGivenSo old mid replies (take i order) → AreGivenSo old new (slice_set replies k (Some value)) (take (i + 1) order)
 given_more old mid new replies order i k value inside is room none came so = grind (arith, in_order_more (slice_set replies k (Some value)) order i k (Some value) inside is (set_here replies k (Some value) room), set_here replies k (Some value) room, set_unnamed replies k (Some value) (take i order) none, map_push Some so.values value, map_push view so.values value, append_assoc)
 
--- the same values
-some_same : (xs ys : List Value) → map Some xs ≡ map Some ys → xs ≡ ys
-some_same [] [] is = refl
-some_same [] (y ∷ ys) is = absurd (cc)
-some_same (x ∷ xs) [] is = absurd (cc)
-some_same (x ∷ xs) (y ∷ ys) is = ap (λ v. v ∷ xs) (same_some x y (same_head is)) ∙ ap (λ vs. y ∷ vs) (some_same xs ys (same_tail is))
-
 -- where all were told, all came
 pub given_all : (old new : List Reply → Type 0) (replies : List (Option Value)) (order : List ℕ) (values : List Value) → replies ≡ map Some values → AreGivenSo old new replies order
     → (before : List Reply) → old before → new (before ++ in_order (map view values) order)
 given_all old new replies order values all so before was =
     let same : so.values ≡ in_order values order =
-    some_same so.values (in_order values order) (sym so.told ∙ ap (λ os. in_order os order) all ∙ sym (map-in_order Some values order)) in
+    same_told so.values (in_order values order) (sym so.told ∙ ap (λ os. in_order os order) all ∙ sym (map-in_order Some values order)) in
     subst new (ap (λ vs. before ++ vs) (ap (map view) same ∙ map-in_order view values order)) (so.gave before was)
 
 pub all_some_told : (replies : List (Option Value)) → ((number : ℕ) → number < length replies → (value : Value) × (slice_get replies number ≡ Some (Some value))) → (values : List Value) × (replies ≡ map Some values)

@@ -164,7 +164,7 @@ pub record AreRoutesOf (command : MultiKey) (routes : List (SlotRoute × List �
   pub some : 0 < length routes
 
 -- each of some things has a number that stands among theirs
-listed : {X : Type 0} (number : X → ℕ) (xs : List X) → All (λ x. list_any (nat_eq (number x)) (map number xs) ≡ true) xs
+pub listed : {X : Type 0} (number : X → ℕ) (xs : List X) → All (λ x. list_any (nat_eq (number x)) (map number xs) ≡ true) xs
 listed number xs k d inside = grind (arith, common_steps, fun_ext, list_any-map, all_there, nat_tests)
 
 -- The slots of a command: each is that of a key, none stands twice, and that of each key stands once.

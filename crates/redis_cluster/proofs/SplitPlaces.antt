@@ -1,5 +1,5 @@
 -- The places of the parts of a multi-key command: those of the slot's tuples, by their numbers, and the place that all keys share.
-use Rattle.std.proofs.Common.{◌≡◌, ℕ, ◌+◌, ◌-◌, ◌*◌, ◌%◌, ◌≤◌, List, [], ◌∷◌, ◌++◌, Bool, true, Some, map, length, drop, refl, sym, ap, ◌∙◌, subst, add-one, suc-mul, zero-mul, arith}
+use Rattle.std.proofs.Common.{◌≡◌, ℕ, ◌+◌, ◌-◌, ◌*◌, ◌%◌, ◌≤◌, List, [], ◌∷◌, ◌++◌, Bool, true, map, length, drop, refl, sym, ap, ◌∙◌, subst, add-one, suc-mul, zero-mul, arith}
 use Rattle.std.specs.Prelude.{nat_eq, All}
 use Rattle.std.specs.List.{flat_map, range_with_len}
 use Rattle.std.proofs.lemmas.Bool.Decides.{nat_tests}
@@ -12,17 +12,16 @@ use Rattle.cluster_slots.proofs.ArgPatterns.{length-own, own_few}
 use Rattle.redis_routing.specs.Command.{Arguments}
 use Rattle.redis_routing.specs.NameWords.{name_words_of}
 use Rattle.redis_routing.specs.PresentArguments.{present_arguments}
-use Rattle.redis_routing.specs.Registry.{Registrations}
 use Rattle.redis_routing.specs.Tuples.{Tuple, keys_alone, keys_and_values, keys_and_two, places_of, tuples_from, tuples_in}
 use Rattle.redis_routing.specs.Parts.{first_appearances, slot_of, tuples_in_slot}
 use Rattle.redis_routing.specs.Routing.{route_of_slot, routes_of}
 use Rattle.redis_routing.proofs.Cover.{own_whole}
 use Rattle.redis_routing.proofs.Picks.{complete_fits}
 use Rattle.redis_routing.proofs.SelfRouting.{before_gap_short}
-use Rattle.redis_cluster.specs.MultiKey.{KeyTuple, MultiKey, multi_key}
+use Rattle.redis_cluster.specs.MultiKey.{KeyTuple, MultiKey}
 use Rattle.redis_cluster.specs.PlacedTuples.{unplaced}
 use Rattle.redis_cluster.proofs.Places.{numbers_from}
-use Rattle.redis_cluster.proofs.SplitParts.{HasTuples, is_made}
+use Rattle.redis_cluster.proofs.SplitParts.{HasTuples}
 use Rattle.resp_core.proofs.Cases.{by_test}
 
 -- the places of the arguments of the tuple of a number, where each tuple has so many
@@ -129,7 +128,3 @@ module _ (pattern : MultiSlotArgPattern) (present : List (List ℕ)) (command : 
 -- no more arguments are present than there are
 pub few_present : (args : Arguments) → length (present_arguments args) ≤ length args
 few_present args = omega (arith, before_gap_short (drop (name_words_of args) args), length-drop (name_words_of args) args)
-
--- there are no more tuples than arguments
-pub tuples_few : (registry : Registrations) (args : Arguments) (command : MultiKey) → multi_key registry args ≡ Some command → length command.tuples ≤ length args
-tuples_few registry args command is = grind (arith, is_made, tuples_few_present, few_present)

@@ -12,7 +12,7 @@ use Rattle.redis_cluster.specs.Trace.{Entry, Ending, answered, refused, redirect
 use Rattle.redis_routing.specs.declared.info.Redirect.{Redirect}
 use Rattle.redis_cluster.specs.Retry.{Attempt, FollowsRedirect, FallsBack}
 use Rattle.redis_cluster.specs.Sent.{IsUnanswered}
-use Rattle.redis_cluster.specs.Attempts.{Try, is_refusal, refusals, last_or, last_ending, next_place, next_address, AreBegun, AttemptsOf, IsCause}
+use Rattle.redis_cluster.specs.Attempts.{Try, is_refusal, refusals, last_or, last_ending, next_place, next_address, AreBegun, AttemptsOf}
 use Rattle.redis_cluster.specs.Tries.{try_once}
 use Rattle.redis_cluster.proofs.Constructors.{same_some}
 
@@ -41,11 +41,6 @@ tried_not node part old new same = grind (arith, common_steps)
 pub tried_so : (may_refuse : ℕ → Ending → Type 0) (old new : List Entry) (mark : Bool) (node : Address) (part : List (List ℕ)) (ending : Option Ending) → IsUnanswered may_refuse old new mark node part ending → AttemptsOf (try_once node part) ending old new
 tried_so may_refuse old new mark node part None h = tried_not node part old new h.0
 tried_so may_refuse old new mark node part (Some x) h = tried_alone node part x old new h.1
-
--- what was allowed to the send is the cause
-pub caused : (may_refuse : ℕ → Ending → Type 0) (old new : List Entry) (mark : Bool) (node : Address) (part : List (List ℕ)) (ending : Option Ending) → IsUnanswered may_refuse old new mark node part ending → IsCause may_refuse (length new) mark ending
-caused may_refuse old new mark node part None h = h.1
-caused may_refuse old new mark node part (Some x) h = grind (arith, common_steps)
 
 -- what a retry knows between two attempts
 pub record IsTrying (try : Try) (old now : List Entry) (retry : Attempt) : Type 0 where

@@ -1,11 +1,11 @@
 -- A running total of replies that are numbers.
-use Rattle.std.proofs.Common.{◌≡◌, ℕ, ◌+◌, ◌<◌, List, refl, length, get_or, drop, map, fold, ℤ, pos, ◌+ℤ◌, Option, Some, None, arith}
-use Rattle.std.specs.Prelude.{option_map, option_and_then}
+use Rattle.std.proofs.Common.{◌≡◌, ℕ, ◌+◌, ◌<◌, List, length, get_or, drop, map, fold, ℤ, Option, Some, arith}
+use Rattle.std.specs.Prelude.{option_map}
 use Rattle.std.proofs.lemmas.Grind.{common_steps}
 use Rattle.resp_core.specs.Reply.{Reply, int_of}
 use Rattle.resp_core.specs.View.{view}
 use Rattle.resp_core.specs.declared.value.Value.{Value}
-use Rattle.redis_combiners.specs.Aggregate.{numbers, in_i64}
+use Rattle.redis_combiners.specs.Aggregate.{numbers}
 
 -- what f makes of the numbers, from a on
 abbrev pub fold_on : (ℤ → ℤ → ℤ) → ℤ → List Reply → Option ℤ
@@ -13,7 +13,3 @@ fold_on f a rs = option_map (fold f a) (numbers rs)
 
 pub fold_step : (f : ℤ → ℤ → ℤ) (a n : ℤ) (vs : List Value) (i : ℕ) (v : Value) → i < length vs → v ≡ get_or vs i v → Some n ≡ int_of (view v) → fold_on f a (map view (drop i vs)) ≡ fold_on f (f a n) (map view (drop (i + 1) vs))
 fold_step f a n vs i v l is e = grind (arith, common_steps)
-
-sum_is : (o : Option (List ℤ)) → option_and_then (λ ns. in_i64 (fold ◌+ℤ◌ (pos 0) ns)) o ≡ option_and_then in_i64 (option_map (fold ◌+ℤ◌ (pos 0)) o)
-sum_is None = refl
-sum_is (Some ns) = refl

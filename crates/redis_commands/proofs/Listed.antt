@@ -1,10 +1,10 @@
 -- Lists of keys, joined into one array, list the keys of the whole keyspace.
-use Rattle.std.proofs.Common.{◌≡◌, ℕ, Bool, List, [], ◌∷◌, ◌++◌, map, Option, Some, None, refl, ap, subst, ◌∙◌, inl, inr, arith}
+use Rattle.std.proofs.Common.{◌≡◌, ℕ, Bool, List, [], ◌∷◌, ◌++◌, map, Some, None, refl, ap, subst, ◌∙◌, inl, inr, arith}
 use Rattle.std.proofs.lemmas.Grind.{common_steps}
 use Rattle.std.specs.Prelude.{option_map, Result, Ok, Err, IfOk}
 use Rattle.resp_core.specs.Answer.{Answer}
 use Rattle.resp_core.specs.ErrorParts.{ErrorParts}
-use Rattle.resp_core.specs.Reply.{Reply, array, bulk, replies_of, items_in, array_of}
+use Rattle.resp_core.specs.Reply.{Reply, array, bulk, replies_of, array_of}
 use Rattle.resp_core.specs.View.{view}
 use Rattle.resp_core.specs.declared.value.Value.{Value}
 use Rattle.cluster_slots.specs.Address.{Address}
@@ -21,13 +21,10 @@ use Rattle.redis_commands.specs.Rule.{ReplyRule, by_policy, IsCombined}
 use Rattle.redis_commands.specs.Keyspaces.{IsServed, AreMeasures, AreKeysOf, listed_answer, joined_measures}
 use Rattle.redis_commands.proofs.Counts.{lists_add, made_some}
 use Rattle.redis_commands.proofs.Whole.{whole_keyspace}
+use Rattle.resp_core.proofs.Views.{items_in-replies_of}
 
 abbrev joined_lists : List (List (List ℕ)) → List (List ℕ)
 joined_lists ls = joined_measures [] ◌++◌ ls
-
-items_are : (rs : List Reply) → items_in (replies_of rs) ≡ rs
-items_are [] = refl
-items_are (r ∷ rs) = ap (λ xs. r ∷ xs) (items_are rs)
 
 no_errors : (ls : List (List (List ℕ))) → first_error (map listed_answer ls) ≡ None
 no_errors [] = refl
@@ -35,7 +32,7 @@ no_errors (l ∷ ls) = no_errors ls
 
 arrays_are : (ls : List (List (List ℕ))) → all_some (map array_of (values_in (map listed_answer ls))) ≡ Some (map (map bulk) ls)
 arrays_are [] = refl
-arrays_are (l ∷ ls) = grind (arith, common_steps, items_are, arrays_are ls)
+arrays_are (l ∷ ls) = grind (arith, common_steps, items_in-replies_of, arrays_are ls)
 
 map_append : (xs ys : List (List ℕ)) → map bulk xs ++ map bulk ys ≡ map bulk (xs ++ ys)
 map_append [] ys = refl
@@ -47,9 +44,6 @@ flat_are (l ∷ ls) = ap (λ rs. map bulk l ++ rs) (flat_are ls) ∙ map_append 
 
 items_of : (ls : List (List (List ℕ))) → all_items (values_in (map listed_answer ls)) ≡ Some (map bulk (joined_lists ls))
 items_of ls = ap (option_map flatten) (arrays_are ls) ∙ ap Some (flat_are ls)
-
-abbrev as_array : Option (List Reply) → Option Reply
-as_array o = option_map (λ items. array (replies_of items)) o
 
 some_is : (a b : Reply) → Some a ≡ Some b → b ≡ a
 some_is a b h = cc

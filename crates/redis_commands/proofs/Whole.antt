@@ -1,5 +1,5 @@
 -- The measures of the parts of a keyspace make one of the whole.
-use Rattle.std.proofs.Common.{◌≡◌, ℕ, Bool, true, false, not, cond, ◌||◌, nat_le, inl, inr, List, [], ◌∷◌, filter, map, Option, Some, None, refl, sym, ap, subst, ◌∙◌, arith}
+use Rattle.std.proofs.Common.{◌≡◌, ℕ, Bool, true, false, not, cond, nat_le, inl, inr, List, [], ◌∷◌, filter, map, Option, Some, None, refl, sym, ap, subst, ◌∙◌, arith}
 use Rattle.std.proofs.lemmas.Grind.{common_steps}
 use Rattle.std.specs.Prelude.{◌≢◌}
 use Rattle.std.specs.List.{list_any}
@@ -15,20 +15,17 @@ use Rattle.cluster_map.proofs.Groups.{same_refl, same_sym}
 use Rattle.redis_cluster.specs.Unsplit.{Keyspace}
 use Rattle.redis_commands.proofs.Primaries.{primary_is}
 use Rattle.redis_commands.specs.Keyspaces.{primary_from, primary_of_slot, is_it, serves_slot, part_in, ShareNoSlot, IsAdditive, AreMeasures, IsServed, joined_measures}
+use Rattle.std.proofs.lemmas.Bool.{or_parts}
 
 -- no address stands there twice
 abbrev Distinct : List Address → Type 0
 Distinct [] = Unit {0}
 Distinct (x ∷ xs) = (list_any (same_address x) xs ≡ false) × Distinct xs
 
-or_false : (a b : Bool) → (a || b) ≡ false → (a ≡ false) × (b ≡ false)
-or_false true b h = let u : true ≡ false = h in cc
-or_false false b h = (refl, h)
-
 any_filter : (p q : Address → Bool) (xs : List Address) → list_any q xs ≡ false → list_any q (filter p xs) ≡ false
 any_filter p q [] h = refl
 any_filter p q (x ∷ xs) h =
-    let both = or_false (q x) (list_any q xs) h in
+    let both = or_parts (q x) (list_any q xs) h in
     by_test (p x) (λ t. rw (t, both.0) (any_filter p q xs both.1)) (λ t. rw t (any_filter p q xs both.1))
 
 distinct_filter : (p : Address → Bool) (xs : List Address) → Distinct xs → Distinct (filter p xs)

@@ -35,9 +35,6 @@ bulk_at items i item h e =
 pub item_argument : (value : Value) (items : List Value) (i : ℕ) (item : Value) → Some (map view items) ≡ array_of (view value) → i < length items → item ≡ get_or items i item → bulk_string_of (view item) ≡ argument (arguments_of_value value) i
 item_argument value items i item is h e = bulk_at items i item h e ∙ ap (λ args. argument args i) (sym (arguments_of_items value items is))
 
-pub no_item : (value : Value) (items : List Value) (i : ℕ) → Some (map view items) ≡ array_of (view value) → length items ≤ i → None ≡ argument (arguments_of_value value) i
-no_item value items i is h = grind (arith, common_steps)
-
 -- one argument more is not the word
 pub none_more : (word : List ℕ) (args : Arguments) (i : ℕ) → ((k : ℕ) → k < i → is_word word (argument args k) ≡ false) → is_word word (argument args i) ≡ false → (k : ℕ) → k < i + 1 → is_word word (argument args k) ≡ false
 none_more word args i before here k h = grind (arith, common_steps)

@@ -1,7 +1,5 @@
 -- The name of a command by its first two arguments, and the arguments that it takes.
-use Rattle.std.proofs.Common.{◌≡◌, ℕ, ◌<◌, ◌≤◌, List, [], ◌∷◌, ◌++◌, Option, Some, None, false, length, option_map, take, refl, ap, arith}
-use Rattle.std.specs.Char.{to_ascii_uppercase}
-use Rattle.std.proofs.lemmas.List.{length-map}
+use Rattle.std.proofs.Common.{◌≡◌, ℕ, ◌<◌, List, [], ◌∷◌, ◌++◌, Option, Some, None, false, length, option_map, take, refl, arith}
 use Rattle.std.proofs.lemmas.Grind.{common_steps}
 use Rattle.redis_routing.specs.Upper.{upper}
 use Rattle.redis_routing.specs.TwoWords.{takes_second}
@@ -13,9 +11,6 @@ use Rattle.resp_core.proofs.Cases.{by_test}
 -- the name of a command, if its first argument is there
 abbrev pub name_from : Arguments → Option (List ℕ) → Option (List ℕ)
 name_from args first = option_map (λ word. name_by (upper word) (option_map upper (argument args 1))) first
-
-by_first : (args : Arguments) (first : List ℕ) → Some first ≡ argument args 0 → Some (name_by (upper first) (option_map upper (argument args 1))) ≡ command_name args
-by_first args first is = ap (name_from args) is
 
 -- a command with a name has the words of it
 pub has_words : (args : Arguments) (name : List ℕ) → Some name ≡ command_name args → HasWords (name_words_of args) args
@@ -37,15 +32,3 @@ words_alone first (Some second) alone = rw alone refl
 pub words_again : (args : Arguments) → 0 < length (present_arguments args) → (other : Arguments)
     → (command_name (take (name_words_of args) args ++ other) ≡ command_name args) × (name_words_of (take (name_words_of args) args ++ other) ≡ name_words_of args)
 words_again args h1 other = grind (arith, common_steps)
-
--- a name is longer than its first word just where it takes a second one
-by_length : (first : List ℕ) (second : Option (List ℕ))
-    → (length first < length (name_by (upper first) (option_map upper second)) → 2 ≡ words_by (Some first) second)
-    × (length (name_by (upper first) (option_map upper second)) ≤ length first → 1 ≡ words_by (Some first) second)
-by_length first None = (λ longer. absurd (omega (arith, longer, length-map first to_ascii_uppercase)), λ _. refl)
-by_length first (Some second) = grind (arith, common_steps)
-
-module _ (args : Arguments) (name : List ℕ) (named : Some name ≡ command_name args) where
-  -- a command with a name has a first argument
-  pub some_first : None ≡ argument args 0 → ⊥
-  some_first none = cc (named, ap (name_from args) none)

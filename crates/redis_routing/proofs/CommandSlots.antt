@@ -1,13 +1,12 @@
 -- The slot of a command by itself is the one that its routing has.
 use Rattle.std.proofs.Common.{◌≡◌, ℕ, zero, suc, ◌+◌, ◌*◌, ◌/◌, ◌%◌, List, [], ◌∷◌, Bool, true, false, cond, Option, Some, None, map, option_map, length, take, get_or, refl, ap, arith}
-use Rattle.std.specs.Prelude.{codes, nat_eq, nat_lt, option_and_then, position}
+use Rattle.std.specs.Prelude.{codes, nat_eq, option_and_then, position}
 use Rattle.std.specs.Option.{option_or}
 use Rattle.std.specs.Simd.{first_chunks}
 use Rattle.std.proofs.Math.Seq.{take-length}
 use Rattle.std.proofs.lemmas.Bool.Decides.{nat_tests}
 use Rattle.std.proofs.lemmas.Grind.{common_steps}
 use Rattle.cluster_slots.specs.KeySlot.{key_slot}
-use Rattle.cluster_slots.specs.Number.{number_in}
 use Rattle.cluster_slots.specs.ArgPattern.{fits}
 use Rattle.cluster_slots.specs.declared.arg_pattern.MultiSlotArgPattern.{MultiSlotArgPattern}
 use Rattle.redis_routing.specs.Command.{Arguments, argument, command_name, is_word}
@@ -18,7 +17,7 @@ use Rattle.redis_routing.specs.Parts.{first_appearances, slot_of}
 use Rattle.redis_routing.specs.PresentArguments.{present_arguments}
 use Rattle.redis_routing.specs.Registry.{Registered, routing_or}
 use Rattle.redis_routing.specs.RouteBy.{base_routing}
-use Rattle.redis_routing.specs.Routing.{argument_number, by_count, route_of_slot, routing, routing_by, routing_by_name, routing_of_routes, to_key, to_key_after, to_key_or_any, to_slot, to_slots}
+use Rattle.redis_routing.specs.Routing.{route_of_slot, routing, routing_by, routing_by_name, routing_of_routes, to_key, to_key_after, to_key_or_any, to_slots}
 use Rattle.redis_routing.specs.RoutingInfo.{Routing, slot_routed}
 use Rattle.redis_routing.specs.Tuples.{keys_alone, keys_and_two, keys_and_values, tuples_in}
 use Rattle.redis_routing.specs.declared.policy.ResponsePolicy.{ResponsePolicy}
@@ -33,13 +32,6 @@ of_key_or_any : (reads : Bool) (key : Option (List ℕ)) → slot_routed (to_key
 of_key_or_any reads None = refl
 of_key_or_any reads (Some key) = refl
 
-of_count : (reads : Bool) (count : Option ℕ) (key : Option (List ℕ)) → slot_routed (by_count reads count key) ≡ option_and_then (λ n. cond (nat_eq n 0) None (option_map key_slot key)) count
-of_count reads count key = grind (arith, common_steps)
-
-number_of : (bits : ℕ) (text : Option (List ℕ)) → argument_number bits text ≡ option_and_then (number_in bits) text
-number_of bits None = refl
-number_of bits (Some text) = refl
-
 of_place : (reads : Bool) (args : Arguments) (place : Option ℕ) → slot_routed (to_key_after reads args place) ≡ option_and_then (λ n. option_map key_slot (argument args (n + 1))) place
 of_place reads args None = refl
 of_place reads args (Some place) = of_key reads (argument args (place + 1))
@@ -47,10 +39,6 @@ of_place reads args (Some place) = of_key reads (argument args (place + 1))
 of_test : (b : Bool) (routing : Option Routing) → slot_routed (cond b routing None) ≡ cond b (slot_routed routing) None
 of_test true routing = refl
 of_test false routing = refl
-
-of_slot : (slot : Option ℕ) → slot_routed (to_slot slot) ≡ option_and_then (λ n. cond (nat_lt n 16384) (Some n) None) slot
-of_slot None = refl
-of_slot (Some n) = of_test (nat_lt n 16384) _
 
 -- one route goes to its slot, and several to no single one
 of_routes : (reads : Bool) (policy : Option ResponsePolicy) (pattern : MultiSlotArgPattern) (present : List (List ℕ)) (slots : List ℕ)

@@ -223,9 +223,6 @@ module _ (pattern : MultiSlotArgPattern) (present : List (List ℕ)) where
   abbrev has_place : ℕ → ℕ → Bool
   has_place p s = list_any (nat_eq p) (places_in_slot pattern present s)
 
-  either : (p s : ℕ) → has_place p s ≡ (list_any (nat_eq p) (slot_tuple_places s tuples) || list_any (nat_eq p) shared_places)
-  either p s = list_any-append (nat_eq p) (slot_tuple_places s tuples) shared_places
-
   has_own : (p s : ℕ) → p < own → has_place p s ≡ list_any (nat_eq p) (slot_tuple_places s tuples)
   has_own p s to = grind (arith, common_steps)
 

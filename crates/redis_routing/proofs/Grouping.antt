@@ -2,7 +2,6 @@
 use Rattle.std.proofs.Common.{◌≡◌, ℕ, zero, suc, ◌+◌, ◌-◌, ◌<◌, ◌≤◌, List, [], ◌∷◌, ◌++◌, Bool, true, false, not, filter, refl, sym, ap, ◌∙◌, arith, map, length, get_or, set, subst, Vec, Global, if◌then◌else◌}
 use Rattle.std.specs.Prelude.{nat_eq}
 use Rattle.std.specs.List.{list_any, flat_map, range_with_len, position_or_len, AllByRecursion, IsDistinct}
-use Rattle.std.proofs.lemmas.Bool.Decides.{nat_tests}
 use Rattle.std.proofs.lemmas.Bool.{eqb-true}
 use Rattle.std.proofs.lemmas.List.{append-nil, length-map, get_or-map, map-set}
 use Rattle.std.proofs.lemmas.Simd.{map-map}
@@ -20,9 +19,6 @@ use Rattle.redis_routing.specs.Split.{slots_of}
 use Rattle.redis_routing.specs.Tuples.{Tuple, tuples_in, places_of}
 use Rattle.redis_routing.proofs.Slots.{swap, part_push, order_more}
 use Rattle.resp_core.proofs.Cases.{by_test}
-
-self : (n : ℕ) → nat_eq n n ≡ true
-self n = grind (arith, nat_tests)
 
 -- what is taken out of a list is not left there
 all_gone : (n : ℕ) (xs : List ℕ) → AllByRecursion (λ y. nat_eq n y ≡ false) (filter (λ k. not (nat_eq n k)) xs)

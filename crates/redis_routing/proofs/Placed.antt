@@ -9,7 +9,8 @@ use Rattle.std.proofs.lemmas.Slice.Eq.{bytes_eq-Decides}
 use Rattle.redis_routing.specs.Lookup.{lookup_name, has_name}
 use Rattle.redis_routing.specs.Places.{stand_at_their_rows, value_at}
 use Rattle.redis_routing.proofs.Search.{missing, missing_name}
-use Rattle.resp_core.proofs.Cases.{by_test, or_second}
+use Rattle.resp_core.proofs.Cases.{by_test}
+use Rattle.std.proofs.lemmas.Bool.{or_right}
 
 module _ {X : Type 0} (key : X → List ℕ) (place : List ℕ → ℕ) where
   -- each row stands at its place, counted from a number on
@@ -57,7 +58,7 @@ module _ {X : Type 0} (key : X → List ℕ) (place : List ℕ → ℕ) where
   name_at : (xs : List X) (n : List ℕ) (i : ℕ) (d : X) → i < length xs → bytes_eq (key (get_or xs i d)) n ≡ true → has_name (map key xs) n ≡ true
   name_at [] n i d inside same = absurd (omega arith)
   name_at (x ∷ xs) n zero d inside same = rw same refl
-  name_at (x ∷ xs) n (suc i) d inside same = or_second (bytes_eq (key x) n) (has_name (map key xs) n) (name_at xs n i d (omega arith) same)
+  name_at (x ∷ xs) n (suc i) d inside same = or_right (bytes_eq (key x) n) (has_name (map key xs) n) (name_at xs n i d (omega arith) same)
 
   -- whether a name stands at its place, by a test there
   pub named_at_place : (xs : List X) (n : List ℕ) (i : ℕ) (d : X) (b : Bool) → stand_at_their_rows place (map key xs) ≡ true → i ≡ place n → i < length xs → b ≡ bytes_eq (key (get_or xs i d)) n → b ≡ has_name (map key xs) n

@@ -12,7 +12,8 @@ use Rattle.redis_routing.specs.Lookup.{has_name}
 use Rattle.redis_routing.specs.TwoWords.{two_word_names, takes_second}
 use Rattle.redis_routing.specs.Registry.{is_bad_name, is_one_word, is_space, has_space, is_empty}
 use Rattle.redis_routing.specs.Upper.{upper}
-use Rattle.resp_core.proofs.Cases.{by_test, and_first, and_second, or_second}
+use Rattle.resp_core.proofs.Cases.{by_test, and_first, and_second}
+use Rattle.std.proofs.lemmas.Bool.{or_right}
 
 pub no_space : (text : List ℕ) → ¬ (Contains text 32) → has_space text ≡ false
 no_space [] h = refl
@@ -20,7 +21,7 @@ no_space (x ∷ text) h = grind (arith, common_steps, no_space text (λ c. h (su
 
 pub some_space : (first second : List ℕ) → has_space (first ++ 32 ∷ second) ≡ true
 some_space [] second = refl
-some_space (x ∷ first) second = or_second (is_space x) (has_space (first ++ 32 ∷ second)) (some_space first second)
+some_space (x ∷ first) second = or_right (is_space x) (has_space (first ++ 32 ∷ second)) (some_space first second)
 
 length_taken : (first rest : List ℕ) → take (length first) (first ++ rest) ≡ first
 length_taken [] rest = refl

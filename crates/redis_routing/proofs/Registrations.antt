@@ -1,5 +1,5 @@
 -- The rows of a registry: what a look-up finds, and what stands there after one more is put in.
-use Rattle.std.proofs.Common.{◌≡◌, ℕ, List, [], ◌∷◌, map, Bool, true, false, cond, ◌&&◌, Option, None, Some, Vec, Global, Ordering, refl, sym, ap, ◌∙◌, length, ◌+◌, arith}
+use Rattle.std.proofs.Common.{◌≡◌, ℕ, List, [], ◌∷◌, map, Bool, true, false, cond, Option, None, Some, Vec, Global, Ordering, refl, sym, ap, ◌∙◌, length, ◌+◌, arith}
 use Rattle.std.specs.Prelude.{IfSome, is_some, if◌then◌else◌}
 use Rattle.std.specs.List.{list_all, AllZip, each_same}
 use Rattle.std.specs.Ordering.{is_eq}
@@ -15,6 +15,7 @@ use Rattle.redis_routing.specs.RouteBy.{base_routing}
 use Rattle.redis_routing.specs.declared.policy.ResponsePolicy.{ResponsePolicy}
 use Rattle.redis_routing.proofs.NameSets.{at, by_items, by_order}
 use Rattle.resp_core.proofs.Cases.{by_test, and_first, and_second}
+use Rattle.std.proofs.lemmas.Bool.{and_from}
 
 abbrev pub Row : Type 0
 Row = Vec ℕ Global × Registered
@@ -65,14 +66,10 @@ lookup-insert_entry q k r (row ∷ rows) = by_order (by_items k row.0)
     (λ greater. rw greater (ap (cond (bytes_eq row.0.items q) (Some row.1)) (lookup-insert_entry q k r rows)
     ∙ cond_apart (bytes_eq row.0.items q) (bytes_eq k.items q) (Some row.1) (Some r) (lookup_name (map row_of rows) q) (apart_keys k.items row.0.items q (other_key k row.0 greater))))
 
-both_true : (a b : Bool) → a ≡ true → b ≡ true → (a && b) ≡ true
-both_true true b h l = l
-both_true false b h l = h
-
 -- what may be registered stands among such
 pub registrable-insert_entry : (k : Vec ℕ Global) (r : Registered) (rows : List Row) → is_registrable k.items r.1 ≡ true → list_all may_stand rows ≡ true → list_all may_stand (insert_entry by_items rows k r) ≡ true
-registrable-insert_entry k r [] new old = both_true (is_registrable k.items r.1) true new refl
-registrable-insert_entry k r (row ∷ rows) new old = grind (arith, common_steps, by_order, by_items, both_true, same_key, and_second, and_first, registrable-insert_entry k r rows new (and_second (may_stand row) (list_all may_stand rows) old))
+registrable-insert_entry k r [] new old = and_from (is_registrable k.items r.1) true new refl
+registrable-insert_entry k r (row ∷ rows) new old = grind (arith, common_steps, by_order, by_items, and_from, same_key, and_second, and_first, registrable-insert_entry k r rows new (and_second (may_stand row) (list_all may_stand rows) old))
 
 -- a name without a row adds one
 pub one_more : (before : Option Registered) (rows after : List Row) → before ≡ None → length after ≡ length rows + (if is_some before then 0 else 1) → length (map row_of after) ≡ length (map row_of rows) + 1

@@ -4,12 +4,12 @@ use Rattle.std.specs.Ordering.{nat_cmp, is_lt, is_eq, ordering_reverse, ordering
 use Rattle.std.specs.Cmp.Lexicographic.{slice_cmp}
 use Rattle.std.specs.List.Sorted.{IsNonDecreasingBy}
 use Rattle.std.specs.Str.{bytes_eq}
-use Rattle.std.proofs.lemmas.Bool.{cases_lt}
+use Rattle.std.proofs.lemmas.Bool.{cases_lt, or_right}
 use Rattle.std.proofs.lemmas.Cmp.{nat_list_cmp_total}
 use Rattle.std.proofs.lemmas.List.Sorted.{searchable_from_sorted}
 use Rattle.std.proofs.lemmas.Map.Text.{is_eq-slice_cmp}
 use Rattle.redis_routing.specs.Lookup.{lookup_name, has_name, ascends, ascends_from}
-use Rattle.resp_core.proofs.Cases.{and_first, and_second, or_second}
+use Rattle.resp_core.proofs.Cases.{and_first, and_second}
 
 abbrev order : List ℕ → List ℕ → Ordering
 order = slice_cmp nat_cmp
@@ -63,7 +63,7 @@ module _ {X : Type 0} (key : X → List ℕ) where
   pub found_name : (xs : List X) (n : List ℕ) (i : ℕ) (d : X) → i < length xs → order (key (get_or xs i d)) n ≡ Ordering.Equal → has_name (map key xs) n ≡ true
   found_name [] n i d inside same = absurd (omega arith)
   found_name (x ∷ xs) n zero d inside same = rw (tested (key x) n Ordering.Equal same) refl
-  found_name (x ∷ xs) n (suc i) d inside same = or_second (bytes_eq (key x) n) (has_name (map key xs) n) (found_name xs n i d (omega arith) same)
+  found_name (x ∷ xs) n (suc i) d inside same = or_right (bytes_eq (key x) n) (has_name (map key xs) n) (found_name xs n i d (omega arith) same)
 
   pub missing_name : (xs : List X) (n : List ℕ) → ((k : ℕ) (d : X) → k < length xs → bytes_eq (key (get_or xs k d)) n ≡ false) → has_name (map key xs) n ≡ false
   missing_name [] n apart = refl

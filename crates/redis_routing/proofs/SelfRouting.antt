@@ -3,7 +3,7 @@ use Rattle.std.proofs.Common.{◌≡◌, ℕ, ◌+◌, ◌-◌, ◌*◌, ◌%◌
 use Rattle.std.specs.Prelude.{nat_eq, nat_lt, All}
 use Rattle.std.specs.List.{flat_map, list_any}
 use Rattle.std.proofs.Math.Nat.{mul-mod_left}
-use Rattle.std.proofs.lemmas.Bool.{lt-ltb, eq-eqb}
+use Rattle.std.proofs.lemmas.Bool.{lt-ltb, eq-eqb, or_right}
 use Rattle.std.proofs.lemmas.Bool.Decides.{nat_tests}
 use Rattle.std.proofs.lemmas.List.{take_at, drop_at, length-append, length-drop, length-take, length-take-le}
 use Rattle.std.proofs.lemmas.List.Elements.{All-cons, All-filter, All-head, All-map, All-tail, All-weaker}
@@ -32,7 +32,6 @@ use Rattle.redis_routing.specs.declared.route_by.RouteBy.{RouteBy}
 use Rattle.redis_routing.specs.declared.route_by.RouteBy.TheVariants as route_by
 use Rattle.redis_routing.proofs.CommandNames.{words_again, words_alone}
 use Rattle.redis_routing.proofs.Rows.{each_row}
-use Rattle.resp_core.proofs.Cases.{or_second}
 
 -- a name of one word, to which no second one belongs
 abbrev is_plain : List ℕ → Bool
@@ -82,9 +81,6 @@ record IsWhole (make : ℕ → List (List ℕ) → List Tuple) (width bound : �
   tuples : (place : ℕ) → map content (make place (flat_map arguments_of ts)) ≡ map content ts
   size : length (flat_map arguments_of ts) ≡ length ts * width
   few : length ts ≤ bound
-
-wider : (make : ℕ → List (List ℕ) → List Tuple) (width bound other : ℕ) (ts : List Tuple) → bound ≤ other → IsWhole make width bound ts → IsWhole make width other ts
-wider make width bound other ts within whole = record { tuples = whole.tuples; size = whole.size; few = omega (arith, whole.few) }
 
 whole_alone : (slot place : ℕ) (present : List (List ℕ)) → IsWhole keys_alone 1 (length present) (tuples_in_slot slot (keys_alone place present))
 whole_alone slot place [] = record { tuples = λ p. refl; size = refl; few = omega arith }
@@ -161,7 +157,7 @@ module _ (pattern : MultiSlotArgPattern) (present : List (List ℕ)) (slot : ℕ
 
 -- each of some things is one of those with its number
 pub all_there : {X : Type 0} (number : X → ℕ) (xs : List X) → All (λ x. list_any (λ y. nat_eq (number y) (number x)) xs ≡ true) xs
-all_there number xs = grind (arith, common_steps, eq-eqb, or_second)
+all_there number xs = grind (arith, common_steps, eq-eqb, or_right)
 
 pub All-first_appearances : (P : ℕ → Type 0) (ns : List ℕ) → All P ns → All P (first_appearances ns)
 All-first_appearances P [] all = all

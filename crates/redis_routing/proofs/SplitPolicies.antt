@@ -1,6 +1,5 @@
 -- The policies of the names that split by slot join the replies to parts.
 use Rattle.std.proofs.Common.{◌≡◌, ℕ, List, Bool, true, false, Option, None, Some, refl, sym, ap, ◌∙◌}
-use Rattle.std.specs.Prelude.{not}
 use Rattle.cluster_slots.specs.declared.arg_pattern.MultiSlotArgPattern.{MultiSlotArgPattern}
 use Rattle.redis_routing.specs.Policies.{joins_parts, policy_of}
 use Rattle.redis_routing.specs.RouteBy.{base_routings, base_routing}
@@ -31,7 +30,3 @@ split_has_policy name pattern is none = cc (split_joins name pattern is, ap is_j
 -- and that joins replies
 pub split_policy_joins : (name : List ℕ) (pattern : MultiSlotArgPattern) (policy : ResponsePolicy) → base_routing name ≡ Some (route_by.MultiSlot pattern) → policy_of name ≡ Some policy → joins_parts policy ≡ true
 split_policy_joins name pattern policy is found = sym (ap is_joining found) ∙ split_joins name pattern is
-
-twice : (b : Bool) → not (not b) ≡ true → b ≡ true
-twice true h = refl
-twice false h = h

@@ -4,7 +4,7 @@ use Rattle.std.proofs.lemmas.Grind.{common_steps}
 use Rattle.std.specs.List.{AllByRecursion}
 use Rattle.std.proofs.lemmas.List.{append_cancel_left, drop_more, length-append}
 use Rattle.resp_core.specs.Reply.{Reply, nil, bulk, int, array, simple, okay, pairs, replies_of}
-use Rattle.resp.specs.Forms.{line, form, forms, depth, depth_items, HasForm, HaveForm, IsBulkOrNil, IsForm}
+use Rattle.resp.specs.Forms.{line, form, forms, depth_items, HaveForm, IsBulkOrNil, IsForm}
 use Rattle.resp.specs.Requests.{byte_at, digits_at, line_at, bulk_at}
 use Rattle.resp.specs.declared.stop.Stop.{Stop}
 use Rattle.resp.specs.declared.stop.Stop.TheVariants.{StopsAt}
@@ -50,9 +50,6 @@ no_item bytes stop is other okay more item same = item
 no_item bytes stop is other (pairs items) more item same = item
 
 -- ---- an array of such items has a form
-
-item_has_form : (r : Reply) → IsBulkOrNil r → HasForm r × (depth r ≡ 0)
-item_has_form r h1 = grind (arith)
 
 items_have_form : (rs : List Reply) → AllByRecursion IsBulkOrNil rs → HaveForm (replies_of rs) × (depth_items (replies_of rs) ≡ 0)
 items_have_form [] are = (tt, refl)

@@ -5,7 +5,6 @@ use Rattle.std.specs.Prelude.{bytes_eq}
 use Rattle.std.specs.List.{AllByRecursion}
 use Rattle.std.specs.Fmt.{signed_decimal}
 use Rattle.std.proofs.lemmas.Bool.{eqb-true, ltb-false, le-ltb, false_from_ne_true}
-use Rattle.std.proofs.lemmas.Bool.Decides.{nat_tests}
 use Rattle.std.proofs.lemmas.Slice.Eq.{bytes_eq-Decides}
 use Rattle.std.proofs.lemmas.Str.{is_utf8-from_IsUtf8}
 use Rattle.std.proofs.lemmas.List.{take_at, drop_at, take-append-drop, length-append, length-take-le}
@@ -17,7 +16,7 @@ use Rattle.resp.specs.Reading.{◌>>=◌, or_malformed, Items, after_line_end, t
 use Rattle.resp.proofs.Steps.{bind_ok, done, ok_is, chosen, some_of}
 use Rattle.resp.proofs.Digits.{number_decimal, int_decimal, in_line_decimal, in_line_int}
 use Rattle.resp.proofs.Lines.{line_is, text_in_line, text_again, after_again}
-use Rattle.resp.proofs.Longer.{Continues, answer_continues}
+use Rattle.resp.proofs.Longer.{Continues, answer_continues, eqb_zero}
 
 after_line : (text rest : List ℕ) → (text ++ crlf) ++ rest ≡ text ++ (13 ∷ 10 ∷ rest)
 after_line text rest = append_assoc text crlf rest
@@ -177,16 +176,13 @@ answer_takes (suc levels) (mark ∷ bytes) x e =
 
 -- ---- what is a form
 
-eqb_zero : (b : ℕ) (rest : List ℕ) → eqb (length (b ∷ rest)) 0 ≡ false
-eqb_zero b rest = grind (arith, nat_tests)
-
-minus_one : length_in (codes "-1") ≡ None
+pub minus_one_none : length_in (codes "-1") ≡ None
 unfolding number_up_to
-minus_one = refl
+minus_one_none = refl
 
 pub length_again : (text body : List ℕ) (n : ℕ) → length_in text ≡ Some n → length_at text (13 ∷ 10 ∷ body) ≡ Ok (Some n, body)
 unfolding length_at
-length_again text body n e = grind (arith, common_steps, false_from_ne_true, bytes_eq-Decides, minus_one, eqb_zero)
+length_again text body n e = grind (arith, common_steps, false_from_ne_true, bytes_eq-Decides, minus_one_none, eqb_zero)
 
 pub nothing_again : (text body : List ℕ) → text ≡ codes "-1" → length_at text (13 ∷ 10 ∷ body) ≡ Ok (None, body)
 unfolding length_at

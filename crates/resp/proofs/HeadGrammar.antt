@@ -14,14 +14,14 @@ use Rattle.resp_core.specs.Reply.{nil}
 use Rattle.resp.specs.declared.fault.Fault.{Fault}
 use Rattle.resp.specs.declared.heads.Kind.{Kind}
 use Rattle.resp.specs.declared.heads.Kind.TheVariants.{Simple, Bulk, Array, Map, Attribute}
-use Rattle.resp.specs.Forms.{Answer, crlf, line, number_up_to, length_in}
+use Rattle.resp.specs.Forms.{Answer, crlf, line, length_in}
 use Rattle.resp.specs.Reading.{◌>>=◌, or_malformed, after_line_end, text_until_line_end, after_text, is_before_length, length_at, bytes_at}
 use Rattle.resp.specs.Messages.{kind_of, announced, Announces, IsHead, IsSearched, length_from, announced_at, head_at, head_of}
 use Rattle.resp.proofs.Steps.{bind_ok, done, ok_is, chosen, some_of}
 use Rattle.resp.proofs.Digits.{and_false, number_after, number_in_is, number_below}
 use Rattle.resp.proofs.Lines.{is_end, text_in_line}
 use Rattle.resp.proofs.Longer.{Continues, Continuous, continues_bind, line_continues, text_steady, lengths_continue, bytes_continue}
-use Rattle.resp.proofs.Grammar.{end_takes, length_takes, bytes_take, spelt, length_again, nothing_again, bytes_again, line_text, line_after}
+use Rattle.resp.proofs.Grammar.{end_takes, length_takes, bytes_take, spelt, length_again, nothing_again, bytes_again, line_text, line_after, minus_one_none}
 use Rattle.resp.proofs.Complete.{Completable, no_ok, complete_bind, lengths_complete, bytes_complete, bytes_begin, text_complete}
 
 -- ---- what is read
@@ -32,10 +32,6 @@ IsCounted text f items = (n : ℕ) × (announced text ≡ Some n) × (items ≡ 
 
 pub minus_one : (text : List ℕ) → text ≡ codes "-1" → announced text ≡ Some 0
 minus_one text e = rw e refl
-
-minus_one_none : length_in (codes "-1") ≡ None
-unfolding number_up_to
-minus_one_none = refl
 
 pub number : (text : List ℕ) (n : ℕ) → length_in text ≡ Some n → announced text ≡ Some n
 number text n e = grind (arith, common_steps, false_from_ne_true, minus_one_none, bytes_eq-Decides)

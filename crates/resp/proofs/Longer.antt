@@ -1,7 +1,7 @@
 -- What more bytes change in reading: nothing but that what was incomplete may be complete.
-use Rattle.std.proofs.Common.{◌≡◌, ◌≢◌, ℕ, zero, suc, ◌≤◌, Bool, true, false, ◌&&◌, ◌||◌, eqb, List, [], ◌∷◌, ◌++◌, length, get_or, drop, codes, Option, Some, None, Result, Ok, Err, refl, sym, ap, ◌∙◌, arith, ◌⊎◌, inl, inr}
+use Rattle.std.proofs.Common.{◌≡◌, ◌≢◌, ℕ, zero, suc, ◌≤◌, true, false, ◌&&◌, ◌||◌, eqb, List, [], ◌∷◌, ◌++◌, length, get_or, drop, codes, Option, Some, None, Result, Ok, Err, refl, sym, ap, ◌∙◌, arith, ◌⊎◌, inl, inr}
 use Rattle.std.specs.Prelude.{bytes_eq}
-use Rattle.std.proofs.lemmas.Bool.{false_from_ne_true}
+use Rattle.std.proofs.lemmas.Bool.{false_from_ne_true, or_parts}
 use Rattle.std.proofs.lemmas.Bool.Decides.{nat_tests, not_from_Decides}
 use Rattle.std.proofs.lemmas.Slice.Eq.{bytes_eq-Decides}
 use Rattle.std.proofs.lemmas.Grind.{common_steps}
@@ -78,15 +78,11 @@ open_number : {A B : Type 0} (o p : Option A) (x : A → B) (after more : List �
 open_number None p x after more h = rw (h refl) refl
 open_number (Some n) p x after more h = tt
 
-eqb_zero : (b : ℕ) (rest : List ℕ) → eqb (length (b ∷ rest)) 0 ≡ false
+pub eqb_zero : (b : ℕ) (rest : List ℕ) → eqb (length (b ∷ rest)) 0 ≡ false
 eqb_zero b rest = grind (arith, nat_tests)
 
 no_false : true ≡ false → ⊥
 no_false e = absurd cc
-
-or_false : (a b : Bool) → (a || b) ≡ false → (a ≡ false) × (b ≡ false)
-or_false true b e = absurd (no_false e)
-or_false false b e = (refl, e)
 
 off : (a b : List ℕ) → a ≢ b → bytes_eq a b ≡ false
 off a b other = false_from_ne_true _ (λ same. other ((bytes_eq-Decides a b).0 same))
@@ -157,7 +153,7 @@ length_steady = (ended_text, unended)
         (λ f. by_test (eqb (length text) 0 || bytes_eq text (codes "-"))
         (λ y. rw (f, y) tt)
         (λ g.
-        let a = or_false (eqb (length text) 0) (bytes_eq text (codes "-")) g in
+        let a = or_parts (eqb (length text) 0) (bytes_eq text (codes "-")) g in
         let some = not_empty text a.0 in
         let one : text ≢ codes "-" = not_from_Decides _ (bytes_eq-Decides text (codes "-")) a.1 in
         let two : text ≢ codes "-1" = not_from_Decides _ (bytes_eq-Decides text (codes "-1")) f in

@@ -2,8 +2,7 @@
 use Rattle.std.proofs.Common.{◌≡◌, ℕ, ◌+◌, ◌-◌, ◌*◌, ◌/◌, ◌%◌, ◌^◌, ◌<◌, ◌≤◌, Bool, true, false, ◌&&◌, cond, eqb, ltb, List, [], ◌∷◌, ◌++◌, length, get_or, drop, append_assoc, append-nil, decimal, Some, None, Ok, Err, refl, sym, ap, ◌∙◌, arith, inl, inr}
 use Rattle.std.specs.Char.{digit_value}
 use Rattle.std.proofs.lemmas.Bool.Decides.{nat_tests}
-use Rattle.std.proofs.lemmas.List.{drop_more, drop_all}
-use Rattle.std.proofs.lemmas.Option.{none-some}
+use Rattle.std.proofs.lemmas.List.{drop_all}
 use Rattle.resp_core.proofs.Cases.{by_test}
 use Rattle.resp.specs.declared.stop.Stop.TheVariants.{WantsMore, StopsAt}
 use Rattle.std.proofs.lemmas.Fmt.{decimal_digit, decimal_step, decimal_by_steps}
@@ -164,15 +163,9 @@ digits_wants limit = refl
 -- ---- a loop over the digits
 
 module _ (limit n i : ℕ) (bytes : List ℕ) (lt : i < length bytes) where
-  here : (some : Bool) → digits_at limit some n (drop i bytes) ≡ digits_at limit some n (get_or bytes i 0 ∷ drop (i + 1) bytes)
-  here some = ap (digits_at limit some n) (drop_more bytes i 0 lt)
-
   pub digit_goes_on : (some : Bool) (m : ℕ) → Some m ≡ with_digit limit some n (get_or bytes i 0) → digits_at limit some n (drop i bytes) ≡ digits_at limit (ltb 0 (i + 1)) m (drop (i + 1) bytes)
   unfolding digits_at
   digit_goes_on some m e = grind (arith, common_steps)
-
-  no_more : (some : Bool) → None ≡ with_digit limit some n (get_or bytes i 0) → is_next_digit limit some n (get_or bytes i 0) ≡ false
-  no_more some e = by_test (is_next_digit limit some n (get_or bytes i 0)) (λ t. absurd (none-some (next n (get_or bytes i 0)) (rw t at e))) (λ f. f)
 
   pub digits_end : (some : Bool) → None ≡ with_digit limit some n (get_or bytes i 0) → some ≡ true → get_or bytes i 0 ≡ 13 → digits_at limit some n (drop i bytes) ≡ Ok (n, drop (i + 1) bytes)
   unfolding digits_at

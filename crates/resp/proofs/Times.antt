@@ -1,7 +1,6 @@
 -- Reading answers one after the other, as a loop does.
-use Rattle.std.proofs.Common.{◌≡◌, ℕ, suc, ◌-◌, ◌+◌, ◌≤◌, ◌<◌, List, [], ◌++◌, Result, Ok, Err, refl, sym, ap, ◌∙◌, append_assoc, append-nil, arith}
+use Rattle.std.proofs.Common.{◌≡◌, ℕ, suc, ◌-◌, ◌+◌, ◌≤◌, ◌<◌, List, ◌++◌, Result, Ok, Err, refl, sym, ap, ◌∙◌, append_assoc, arith}
 use Rattle.std.proofs.lemmas.Grind.{common_steps}
-use Rattle.resp_core.specs.Reply.{Reply}
 use Rattle.resp.specs.declared.fault.Fault.{Fault}
 use Rattle.resp.specs.declared.fault.ReadError.{ReadError}
 use Rattle.resp.specs.declared.fault.ReadError.TheVariants as errors
@@ -19,10 +18,6 @@ with_front front read = read >>= λ x. Ok (items_append front x.0, x.1)
 
 one_more : (front : Items) (a : Answer) (others : Items) → items_append front (answer_before a others) ≡ items_append (answer_after front a) others
 one_more front a others = grind (arith, append_assoc)
-
-no_more : (front : Items) → items_append front (Ok []) ≡ front
-no_more (Err text) = refl
-no_more (Ok rs) = ap (λ (ts : List Reply). Ok ts) (append-nil rs)
 
 regroup : (front : Items) (a : Answer) (read : Result (Items × List ℕ) Fault) → with_front front (read >>= λ x. Ok (answer_before a x.0, x.1)) ≡ with_front (answer_after front a) read
 regroup front a (Ok x) = ap (λ (items : Items). Ok (items, x.1)) (one_more front a x.0)

@@ -14,9 +14,5 @@ pub and_second : (a b : Bool) → (a && b) ≡ true → b ≡ true
 and_second true b h = h
 and_second false b h = cc
 
-pub or_second : (a b : Bool) → b ≡ true → (a || b) ≡ true
-or_second true b h = refl
-or_second false b h = h
-
 pub or_swap : (a b c : Bool) → (a || (b || c)) ≡ (b || (a || c))
 or_swap a b c = grind (arith)

@@ -23,8 +23,8 @@ use Rattle.slotroute_serve.specs.declared.fault.RunFault.{RunFault}
 use Rattle.slotroute_serve.specs.declared.fault.RunFault.TheVariants as fault
 use Rattle.slotroute_serve.proofs.Reading.{HasLine}
 use Rattle.slotroute_serve.proofs.Running.{RunsOn, run_begun, stopped_before_line, stopped_after_line, refused_in_line, cut}
-use Rattle.slotroute_serve.proofs.Serving.{nothing}
 use Rattle.slotroute_serve.proofs.Writing.{grows}
+use Rattle.std.proofs.KnownBytes.{Appends-nil}
 
 -- a line that could not be read, where a read may fail for that of the input
 pub unread_caused : (reads writes : Type 0) (r : Result (Unit {0}) RunFault) (unread : ReadFault) → IsErrAnd r (λ e. e ≡ run_unread unread) → (unread ≡ read.Input → reads) → IfErr r (λ e. IsCaused reads writes (fault_of_run e))
@@ -43,7 +43,7 @@ module _ (handed : Bool) (direction : Direction) (registered : Registrations) (e
 
   -- nothing was run yet
   pub not_begun : (first : ℕ) (input out : Option (List ℕ)) → RunStops handed direction registered entries first input input out out fault.Memory
-  not_begun first input out = ([], nothing out, stopped_before_line handed direction registered entries input input first first no_keys [] (run_begun handed direction registered entries input first))
+  not_begun first input out = ([], Appends-nil out, stopped_before_line handed direction registered entries input input first first no_keys [] (run_begun handed direction registered entries input first))
 
   pub reader_stops : (first : ℕ) (unread : ReadFault) (input left out new : Option (List ℕ)) (text : List ℕ) (r : Result (Unit {0}) RunFault) → Appends out new text → Leaves input left (λ bytes rest. StopsAfter handed direction registered entries bytes rest text) → IsErrAnd r (λ e. e ≡ run_unread unread)
       → MatchResult r (λ x. RunEnds handed direction registered entries input left out new) (RunStops handed direction registered entries first input left out new)

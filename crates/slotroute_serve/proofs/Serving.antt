@@ -1,5 +1,5 @@
 -- What the words and the input call for.
-use Rattle.std.proofs.Common.{◌≡◌, ◌≢◌, ◌≤◌, ℕ, Bool, true, false, if◌then◌else◌, arith, is_none, map, string_bytes, Bor, String, Global, Vec, append_assoc, decimal, List, [], ◌∷◌, ◌++◌, refl, subst, rules, take, inl, inr, ◌⊎◌}
+use Rattle.std.proofs.Common.{◌≡◌, ◌≢◌, ◌≤◌, ℕ, Bool, true, false, if◌then◌else◌, arith, is_none, map, string_bytes, Bor, String, Global, Vec, append_assoc, decimal, List, [], ◌∷◌, ◌++◌, refl, subst, take, inl, inr, ◌⊎◌}
 use Rattle.std.specs.Prelude.{Option, Some, None, Result, Ok, Err, OnOk, OnErr, IfSome, MatchResult, codes, ⊤}
 use Rattle.std.specs.List.{list_any}
 use Rattle.std.specs.Result.{IsErrAnd}
@@ -38,6 +38,7 @@ use Rattle.slotroute_serve.specs.declared.request.Request.{Request}
 use Rattle.slotroute_serve.specs.declared.request.Request.TheVariants as request
 use Rattle.slotroute_serve.specs.declared.direction.Direction.{Direction}
 use Rattle.slotroute_serve.proofs.Running.{after_the_map, begins_at_refused}
+use Rattle.std.proofs.KnownBytes.{Appends-nil}
 
 -- The line of an answer, as it is written.
 pub slot_line_is : (slot : ℕ) (text : List ℕ) → codes "slot " ++ (decimal slot ++ (32 ∷ (text ++ (10 ∷ [])))) ≡ slot_line slot text
@@ -75,11 +76,6 @@ pub answer_status : (registered : Registrations) (entries : List (RangeEntry Slo
 answer_status registered entries words text status (node_answer key line of h) = node_status entries key line of h
 answer_status registered entries words text status (split_answer command lines of h) = rw h.answered.ended (cond_status (list_any (λ part. is_none part.node) h.answered.parts))
 
--- Nothing is written where nothing is.
-pub nothing : (out : Option (List ℕ)) → Appends out out []
-nothing None = tt
-nothing (Some x) = search rules
-
 -- The report of a fault.
 -- a line was written, or a beginning of it
 told : {E : Type 0} (failed : Type 0) (old new : Option (List ℕ)) (text line : List ℕ) (r : Result (Unit {0}) E) → text ≡ line → OnOk r (Appends old new text) → OnErr r ((k : ℕ) × Appends old new (take k text)) → OnErr r failed
@@ -95,8 +91,8 @@ reported_memory failed old new e text r b t whole part f = let (errs, grown, is)
 module _ (handed : Bool) where
   -- The faults and the answer of a run.
   pub usage_fault : (words : List (List ℕ)) (input out : Option (List ℕ)) → ¬ (IsUsage words) → Explains handed words input input out out fault.Usage
-  usage_fault words None out h = (nothing out, tt)
-  usage_fault words (Some bytes) out h = (nothing out, usage words bytes h)
+  usage_fault words None out h = (Appends-nil out, tt)
+  usage_fault words (Some bytes) out h = (Appends-nil out, usage words bytes h)
 
   pub is_request : (words : List (List ℕ)) (r : Request) → AsksFor words r → IsUsage words
   is_request words (request.Answer (Node key)) a = rw a (node_request key.now)
@@ -108,11 +104,11 @@ module _ (handed : Bool) where
   touched words old new w other = absurd (other w)
 
   no_map_of : (words : List (List ℕ)) (input left out : Option (List ℕ)) (e : MapFault) → IsUsage words → IfSome input (λ bytes. WhyNoMap (leading_lines bytes) e) → Leaves input left (λ bytes rest. IsInputLeft bytes rest e) → Explains handed words input left out out (fault_of_map e)
-  no_map_of words input left out map_fault.Memory w h l = ([], nothing out, w, inl (refl, l))
-  no_map_of words input left out map_fault.Input w h l = ([], nothing out, w, inl (refl, l))
-  no_map_of words None left out (map_fault.BadLine n) w h l = (nothing out, tt)
+  no_map_of words input left out map_fault.Memory w h l = ([], Appends-nil out, w, inl (refl, l))
+  no_map_of words input left out map_fault.Input w h l = ([], Appends-nil out, w, inl (refl, l))
+  no_map_of words None left out (map_fault.BadLine n) w h l = (Appends-nil out, tt)
   no_map_of words (Some bytes) None out (map_fault.BadLine n) w h l = absurd l
-  no_map_of words (Some bytes) (Some rest) out (map_fault.BadLine n) w h l = (nothing out, rw l (bad_map words bytes n w h))
+  no_map_of words (Some bytes) (Some rest) out (map_fault.BadLine n) w h l = (Appends-nil out, rw l (bad_map words bytes n w h))
 
   pub no_map : (words : List (List ℕ)) (input left out : Option (List ℕ)) (e : MapFault) (r : Result ℕ Fault) → IsUsage words → IfSome input (λ bytes. WhyNoMap (leading_lines bytes) e) → Leaves input left (λ bytes rest. IsInputLeft bytes rest e)
       → IsErrAnd r (λ x. x ≡ fault_of_map e) → MatchResult r (HasAnswer handed words input left out out) (Explains handed words input left out out)
@@ -122,19 +118,19 @@ module _ (handed : Bool) where
   pub no_memory : (words : List (List ℕ)) (input left out : Option (List ℕ)) (r : Result ℕ Fault) → IsUsage words → Leaves input left (λ bytes rest. rest ≡ after_map bytes) → IsErrAnd r (λ x. x ≡ fault.Memory)
       → MatchResult r (HasAnswer handed words input left out out) (Explains handed words input left out out)
   no_memory words input left out (Ok x) w l is = absurd is
-  no_memory words input left out (Err x) w l is = rw is ([], nothing out, w, inl (refl, left_after_map input left l))
+  no_memory words input left out (Err x) w l is = rw is ([], Appends-nil out, w, inl (refl, left_after_map input left l))
 
   -- what explains that a command has no lines
   no_split_of : (command : List (List ℕ)) (input left out : Option (List ℕ)) (made : Made) (e : AnswerFault) → command ≢ [] → IfSome input (λ bytes. IsMap (leading_lines bytes) made) → Leaves input left (λ bytes rest. rest ≡ after_map bytes) → WhyNoSplit made.registry command e
       → Explains handed (split_words command) input left out out (fault_of_answer e)
-  no_split_of command input left out made answer_fault.Memory some m l h = ([], nothing out, split_request command some, inl (refl, left_after_map input left l))
-  no_split_of command None left out made answer_fault.NotMultiKey some m l h = (nothing out, tt)
+  no_split_of command input left out made answer_fault.Memory some m l h = ([], Appends-nil out, split_request command some, inl (refl, left_after_map input left l))
+  no_split_of command None left out made answer_fault.NotMultiKey some m l h = (Appends-nil out, tt)
   no_split_of command (Some bytes) None out made answer_fault.NotMultiKey some m l h = absurd l
-  no_split_of command (Some bytes) (Some rest) out made answer_fault.NotMultiKey some m l h = (nothing out, rw l (not_multi_key command bytes made some m h))
+  no_split_of command (Some bytes) (Some rest) out made answer_fault.NotMultiKey some m l h = (Appends-nil out, rw l (not_multi_key command bytes made some m h))
 
   no_answer_of : (words : List (List ℕ)) (asked : Question) (input left out : Option (List ℕ)) (made : Made) (e : AnswerFault) → Asks words asked → IfSome input (λ bytes. IsMap (leading_lines bytes) made) → Leaves input left (λ bytes rest. rest ≡ after_map bytes) → WhyNoAnswer made.registry asked e
       → Explains handed words input left out out (fault_of_answer e)
-  no_answer_of words (Node key) input left out made e a m l h = rw (a, h) ([], nothing out, node_request key.now, inl (refl, left_after_map input left l))
+  no_answer_of words (Node key) input left out made e a m l h = rw (a, h) ([], Appends-nil out, node_request key.now, inl (refl, left_after_map input left l))
   no_answer_of words (Split command) input left out made e (a, some) m l h = rw a (no_split_of (map string_bytes command.now) input left out made e some m l h)
 
   pub no_answer : (words : List (List ℕ)) (asked : Question) (input left out : Option (List ℕ)) (made : Made) (e : AnswerFault) (r : Result ℕ Fault) → Asks words asked → IfSome input (λ bytes. IsMap (leading_lines bytes) made) → Leaves input left (λ bytes rest. rest ≡ after_map bytes) → WhyNoAnswer made.registry asked e
@@ -198,7 +194,7 @@ module _ (handed : Bool) where
   called_as words (Some bytes) (Some rest) outs errs line e h = rw e h
 
   pub served_answer : (reads writes tells : Type 0) (words : List (List ℕ)) (input left out new err : Option (List ℕ)) (status : ℕ) → HasAnswer handed words input left out new status → Serves reads writes tells handed words input left out new err err status
-  served_answer reads writes tells words input left out new err status (outs, written, called_for) = inl record { outs = outs; errs = []; written = written; told = nothing err; called_for = called_for }
+  served_answer reads writes tells words input left out new err status (outs, written, called_for) = inl record { outs = outs; errs = []; written = written; told = Appends-nil err; called_for = called_for }
 
   pub served_fault : (reads writes tells : Type 0) (words : List (List ℕ)) (input left out new err told : Option (List ℕ)) (e : Fault) → Explains handed words input left out new e → IsCaused reads writes e → Reports tells err told e → Serves reads writes tells handed words input left out new err told 2
   served_fault reads writes tells words input left out new err told fault.Usage x c (errs, a, inl (inl same)) =

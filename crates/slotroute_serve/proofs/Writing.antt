@@ -3,19 +3,13 @@ use Rattle.std.proofs.Common.{◌≡◌, ℕ, ◌+◌, ◌-◌, ◌≤◌, List,
 use Rattle.std.proofs.Math.Seq.{take-add, take-length}
 use Rattle.std.proofs.lemmas.List.{length-drop}
 use Rattle.std.specs.Prelude.{Option, Some, None}
-use Rattle.std.specs.Io.KnownBytes.{Appends, Keeps}
+use Rattle.std.specs.Io.KnownBytes.{Appends}
 
 pub grows : (old mid new : Option (List ℕ)) (a b ab : List ℕ) → Appends old mid a → Appends mid new b → ab ≡ a ++ b → Appends old new ab
 grows None mid new a b ab h k e = tt
 grows (Some x) None new a b ab h k e = absurd h
 grows (Some x) (Some y) None a b ab h k e = absurd k
 grows (Some x) (Some y) (Some z) a b ab h k e = k ∙ ap (λ t. t ++ b) h ∙ append_assoc x a b ∙ ap (λ t. x ++ t) (sym e)
-
-pub kept : (old mid new : Option (List ℕ)) (a : List ℕ) → Appends old mid a → Keeps mid new → Appends old new a
-kept None mid new a h k = tt
-kept (Some x) None new a h k = absurd h
-kept (Some x) (Some y) None a h k = absurd k
-kept (Some x) (Some y) (Some z) a h k = k ∙ h
 
 rest_all : (d : ℕ) (text : List ℕ) → take (length text - d) (drop d text) ≡ drop d text
 rest_all d text = let e : take (length (drop d text)) (drop d text) ≡ drop d text = take-length (drop d text) in rw length-drop at e

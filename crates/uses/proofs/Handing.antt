@@ -1,5 +1,5 @@
 -- Parts that are handed over one after the other, each with its node.
-use Rattle.std.proofs.Common.{◌≡◌, ◌≤◌, ℕ, zero, suc, ◌+◌, List, [], ◌∷◌, ◌++◌, None, Some, refl, ap, ◌∙◌, arith, length, map, take}
+use Rattle.std.proofs.Common.{◌≡◌, ◌≤◌, ℕ, zero, suc, ◌+◌, List, [], ◌∷◌, None, Some, refl, ap, ◌∙◌, arith, length, map, take}
 use Rattle.std.proofs.lemmas.Grind.{common_steps}
 use Rattle.std.specs.Prelude.{slice_get}
 use Rattle.std.specs.List.{AllZip, zip}
@@ -30,12 +30,6 @@ module _ {A B : Type 0} where
   zip_within [] ys = omega arith
   zip_within (a ∷ xs) [] = omega arith
   zip_within (a ∷ xs) (b ∷ ys) = let rest = zip_within xs ys in omega (arith, rest)
-
--- one more of a list
-pub take_there : {X : Type 0} (xs : List X) (k : ℕ) (x : X) → slice_get xs k ≡ Some x → take (k + 1) xs ≡ take k xs ++ x ∷ []
-take_there [] k x at = absurd (cc at)
-take_there (y ∷ xs) zero x at = let same : y ≡ x = cc in ap (λ v. v ∷ []) same
-take_there (y ∷ xs) (suc k) x at = grind (arith, take_there xs k x)
 
 -- or none more
 pub take_past : {X : Type 0} (xs : List X) (k : ℕ) → slice_get xs k ≡ None → take (k + 1) xs ≡ take k xs

@@ -5,7 +5,7 @@ use Rattle.std.specs.Prelude.{nat_eq, slice_get, option_and_then}
 use Rattle.std.proofs.lemmas.Bool.{eqb-true}
 use Rattle.std.proofs.lemmas.List.{drop_at, drop-map, length-map, take-append-drop, take_at, take-map}
 use Rattle.std.proofs.lemmas.List.Elements.{All-head, All-tail, filter_passes}
-use Rattle.std.proofs.lemmas.Option.{get_or_from_slice_get, slice_get_within, slice_get-get_or}
+use Rattle.std.proofs.lemmas.Option.{slice_get_within, slice_get-get_or}
 use Rattle.resp_core.proofs.Cases.{by_test}
 use Rattle.resp_core.specs.Reply.{Reply}
 use Rattle.cluster_slots.specs.Address.{Address}
@@ -35,6 +35,7 @@ use Rattle.wire.specs.Said.{SendOutcome, said as said_by, answer, refusal, redir
 use Rattle.wire.specs.Commands.{SaidCommand, outcome_ending, entry_by}
 use Rattle.wire.proofs.Replaying.{replies-append}
 use Rattle.wire.proofs.AnsweredSends.{IsOfNext, IsOwnTry, AreOfSlots, AreSentInOrder, slots_in_routes, by_delivered, by_tried}
+use Rattle.redis_cluster.proofs.Tries.{all_at}
 
 -- a list whose elements are those of another one mapped
 map_from : {A B : Type 0} (f : A → B) (xs : List A) (ys : List B) → length ys ≡ length xs → ((k : ℕ) (x : A) (y : B) → slice_get xs k ≡ Some x → slice_get ys k ≡ Some y → y ≡ f x) → ys ≡ map f xs
@@ -42,10 +43,6 @@ map_from f [] [] long each = refl
 map_from f [] (y ∷ ys) long each = absurd (omega (arith, long))
 map_from f (x ∷ xs) [] long each = absurd (omega (arith, long))
 map_from f (x ∷ xs) (y ∷ ys) long each = let first : y ≡ f x = each 0 x y refl refl in ap (λ z. z ∷ ys) first ∙ ap (λ zs. f x ∷ zs) (map_from f xs ys (omega (arith, long)) (λ k u v a b. each (suc k) u v a b))
-
--- what holds of each element holds of the one at a place
-at_place : {X : Type 0} (P : X → Type 0) (xs : List X) (k : ℕ) (x : X) → All P xs → slice_get xs k ≡ Some x → P x
-at_place P xs k x all is = subst P (get_or_from_slice_get xs k x x is) (all k x (slice_get_within xs k x is))
 
 -- where a slot first stands in a list
 abbrev place_of : ℕ → List ℕ → ℕ
@@ -201,7 +198,7 @@ module _ (C : Type 0) (r : Request) (old new : List SaidCommand) (d : AreSentInO
 
   -- what is sent for a slot means the slot's part
   meant : (i slot : ℕ) → slice_get slots i ≡ Some slot → multi_key registered (part_by_slot registered r.arguments slot) ≡ Some (part_of command slot)
-  meant i slot at = at_place (λ slot. multi_key registered (part_by_slot registered r.arguments slot) ≡ Some (part_of command slot)) slots i slot (parts.meant command command_is) at
+  meant i slot at = all_at (λ slot. multi_key registered (part_by_slot registered r.arguments slot) ≡ Some (part_of command slot)) slots i slot (parts.meant command command_is) at
 
   -- each answered send since then is of a slot's part
   part_at : (number : ℕ) (part : MultiKey) (reply : Reply) → n ≤ number → IsReplyAt registered new number part reply → (slot : ℕ) × (part ≡ part_of command slot)

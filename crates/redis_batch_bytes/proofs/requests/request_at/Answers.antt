@@ -1,12 +1,7 @@
 use Rattle.std.proofs.Common.{arith}
 use Rattle.std.proofs.lemmas.Grind.{common_steps}
-use Rattle.resp.specs.declared.fault.RequestFault.{RequestFault}
-use Rattle.resp.specs.declared.fault.RequestError.{RequestError}
 use Rattle.resp.specs.declared.fault.RequestError.TheVariants as errors
 use Rattle.redis_batch_bytes.proofs.requests.request_at.Goals as goal
-
-abbrev of_fault : RequestFault → RequestError
-of_fault fault = errors.Fault fault
 
 pub returns-in-Err-Fault-Incomplete-clause-fault : goal.returns-in-Err-Fault-Incomplete-clause-fault
 returns-in-Err-Fault-Incomplete-clause-fault c = grind (arith, common_steps)

@@ -6,8 +6,9 @@ use Rattle.redis_routing.specs.Names.{names_in, names_of}
 use Rattle.redis_routing.specs.Routing.{routing}
 use Rattle.redis_routing.specs.RoutingInfo.{slot_routed}
 use Rattle.redis_routing.specs.Split.{policy_by_name}
-use Rattle.redis_batches.proofs.Commands.{kept_split, meant_slot, of_some}
+use Rattle.redis_batches.proofs.Commands.{kept_split, meant_slot}
 use Rattle.redis_batches.proofs.task.meaning_by.Goals as goal
+use Rattle.redis_cluster.proofs.Constructors.{of_some}
 
 pub returns-in-Some : goal.returns-in-Some
 returns-in-Some g c = λ args are.

@@ -1,6 +1,7 @@
 use Rattle.redis_batches.specs.CommandTask.{IsTaskFor}
-use Rattle.redis_batches.proofs.Commands.{first_meaningless, kept_next, of_some}
+use Rattle.redis_batches.proofs.Commands.{first_meaningless, kept_next}
 use Rattle.redis_batches.proofs.task.tasks_of.Goals as goal
+use Rattle.redis_cluster.proofs.Constructors.{of_some}
 
 pub loop-number-preserved : goal.loop-number-preserved
 loop-number-preserved c =

@@ -6,8 +6,9 @@ use Rattle.redis_routing.specs.Complete.{multi_slot_routes}
 use Rattle.redis_routing.specs.Split.{Split}
 use Rattle.redis_bytes.specs.Requests.{IsSplitOf}
 use Rattle.redis_cluster.specs.Plan.{ArePartsAnswered}
-use Rattle.redis_bytes.proofs.Splits.{of_some, same_split}
+use Rattle.redis_bytes.proofs.Splits.{same_split}
 use Rattle.redis_bytes.proofs.combining.combine.Goals as goal
+use Rattle.redis_cluster.proofs.Constructors.{of_some}
 
 pub returns-in_err-command-clause-unsplit : goal.returns-in_err-command-clause-unsplit
 returns-in_err-command-clause-unsplit c = λ split reply_form results parts is answered are.

@@ -6,8 +6,9 @@ use Rattle.redis_routing.specs.Complete.{multi_slot_routes}
 use Rattle.redis_routing.specs.Split.{Split}
 use Rattle.redis_bytes.specs.Requests.{IsSplitOf}
 use Rattle.redis_bytes.specs.Requests.{AreParts}
-use Rattle.redis_bytes.proofs.Splits.{of_some, same_split}
+use Rattle.redis_bytes.proofs.Splits.{same_split}
 use Rattle.redis_bytes.proofs.splitting.split.Goals as goal
+use Rattle.redis_cluster.proofs.Constructors.{of_some}
 
 pub returns-in_err-command-clause-only : goal.returns-in_err-command-clause-only
 returns-in_err-command-clause-only c = λ split is.

@@ -1,13 +1,9 @@
-use Rattle.std.proofs.Common.{Result, Ok, Err, IfOk, IfErr, OnOk, OnErr, arith}
+use Rattle.std.proofs.Common.{Result, Ok, Err, IfErr, OnErr, arith}
 use Rattle.std.proofs.lemmas.Grind.{common_steps}
 use Rattle.redis_cluster.proofs.Allowed.{allowed_sent}
 use Rattle.redis_cluster.proofs.PartSends.{unanswered_then}
 use Rattle.redis_cluster.proofs.Trying.{tried_so}
 use Rattle.redis_cluster.proofs.attempts.send_once.Goals as goal
-
-all_four : {T E : Type 0} {B D : Type 0} (A C P : T → Type 0) (r : Result T E) → ((x : T) → A x → B → C x → D → P x) → IfOk r A → OnOk r B → IfOk r C → OnOk r D → IfOk r P
-all_four A C P (Ok x) f a b c d = f x a b c d
-all_four A C P (Err e) f a b c d = tt
 
 all_three : {T E : Type 0} {B : Type 0} (A C P : E → Type 0) (r : Result T E) → ((e : E) → A e → B → C e → P e) → IfErr r A → OnErr r B → IfErr r C → IfErr r P
 all_three A C P (Ok x) f a b c = tt

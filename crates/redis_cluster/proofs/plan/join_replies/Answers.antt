@@ -1,20 +1,11 @@
-use Rattle.std.proofs.Common.{◌≡◌, List, length, map, sym, ap, ◌∙◌, arith}
+use Rattle.std.proofs.Common.{◌≡◌, length, map, sym, ap, ◌∙◌, arith}
 use Rattle.std.proofs.lemmas.Grind.{common_steps}
 use Rattle.std.proofs.lemmas.List.{length-map}
-use Rattle.resp_core.specs.Reply.{Reply}
 use Rattle.resp_core.specs.View.{view}
-use Rattle.redis_routing.specs.Split.{Split, slots_of}
 use Rattle.redis_routing.specs.RoutingInfo.{route_list}
-use Rattle.redis_cluster.specs.MultiKey.{ReplyForm}
-use Rattle.redis_cluster.specs.SlotItems.{items_of_slot}
-use Rattle.redis_cluster.specs.Unsplit.{TupleResult, reply_by}
-use Rattle.redis_cluster.specs.Plan.{ArePartsAnswered, tuples_in_split}
-use Rattle.redis_cluster.proofs.Made.{made_of_parts, unsplit_of_parts}
+use Rattle.redis_cluster.proofs.Made.{made_of_parts, unsplit_of_parts, as_many}
 use Rattle.redis_cluster.proofs.SplitTuples.{is_split_to}
 use Rattle.redis_cluster.proofs.plan.join_replies.Goals as goal
-
-as_many : (split : Split) (form : ReplyForm) (results : List TupleResult) (replies : List Reply) → ArePartsAnswered split form results replies → length replies ≡ length split.routes
-as_many split form results replies are = ap length are.replies_are ∙ length-map (slots_of split.routes) (λ slot. reply_by form (items_of_slot slot (tuples_in_split split) results)) ∙ length-map split.routes (λ r. r.0.slot)
 
 pub returns-then-len-routes-clause-unsplit : goal.returns-then-len-routes-clause-unsplit
 returns-then-len-routes-clause-unsplit g c = λ form results are.

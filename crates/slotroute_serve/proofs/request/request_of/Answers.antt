@@ -1,9 +1,9 @@
-use Rattle.std.proofs.Common.{arith, ◌≡◌, ◌⊎◌, ℕ, List, ◌∷◌, [], map, string_bytes, ◌≤◌, ◌-◌, length, get_or, take, drop, ap, ◌∙◌, sym, subst, codes}
+use Rattle.std.proofs.Common.{arith, ◌≡◌, ℕ, List, ◌∷◌, [], map, string_bytes, ◌≤◌, ◌-◌, length, get_or, take, drop, ap, ◌∙◌, sym, subst, codes}
 use Rattle.std.proofs.lemmas.Grind.{common_steps}
 use Rattle.std.specs.Prelude.{Option, Some, None, MatchOption}
 use Rattle.std.proofs.lemmas.List.{take_rest}
 use Rattle.slotroute_serve.specs.declared.direction.Direction.{Direction}
-use Rattle.slotroute_serve.specs.Output.{IsUsage, IsDirected, IsRunWords, node_words, split_words}
+use Rattle.slotroute_serve.specs.Output.{IsUsage, IsDirected}
 use Rattle.slotroute_serve.specs.Requests.{AsksFor}
 use Rattle.slotroute_serve.specs.declared.request.Request.{Request}
 use Rattle.slotroute_serve.proofs.request.request_of.Goals as goal
@@ -12,15 +12,6 @@ use Rattle.slotroute_serve.proofs.request.request_of.Goals as goal
 first_and_rest : {A : Type 0} (f : A → List ℕ) (ws : List A) (a : A) → a ≡ get_or ws 0 a → 1 ≤ length ws → map f ws ≡ f a ∷ map f (take (length ws - 1) (drop 1 ws))
 first_and_rest f [] a e h = absurd (omega arith)
 first_and_rest f (x ∷ xs) a e h = rw (take_rest (x ∷ xs) 1) (ap (λ z. f z ∷ map f xs) (sym e))
-
--- the three forms of words
-form : (ws : List (List ℕ)) → IsUsage ws
-    → ((key : List ℕ) × (ws ≡ node_words key)) ⊎ (((command : List (List ℕ)) × (ws ≡ split_words command)) ⊎ ((direction : Direction) × IsRunWords direction ws))
-form ws h1 = grind (arith)
-
-abbrev first_of : List (List ℕ) → List ℕ
-first_of [] = []
-first_of (w ∷ ws) = w
 
 not_directed : (rest : List (List ℕ)) → ((direction : Direction) → ¬ (IsDirected direction rest)) → ¬ (IsUsage (codes "run" ∷ rest))
 not_directed rest none asked = grind (arith, common_steps)

@@ -10,14 +10,6 @@ run_by : {A : Type 0} (f : A → List ℕ) (ws : List A) (command word : A) (r :
     → MatchOption r ((strategy : StrategyName) → ¬ (IsRunBy strategy (map f ws))) (λ strategy. IsRunBy strategy (map f ws))
 run_by f ws command word r h1 h2 h3 h4 h5 = grind (arith, common_steps)
 
--- words of another number name none
-not_three : {A : Type 0} (f : A → List ℕ) (ws : List A) → (length ws ≡ 3 → ⊥) → (strategy : StrategyName) → ¬ (IsRunBy strategy (map f ws))
-not_three f ws h1 strategy = grind (arith, common_steps)
-
--- nor do words that begin with another than `run`
-not_run : {A : Type 0} (f : A → List ℕ) (ws : List A) (command : A) → command ≡ get_or ws 0 command → (f command ≡ codes "run" → ⊥) → (strategy : StrategyName) → ¬ (IsRunBy strategy (map f ws))
-not_run f ws command h1 h2 strategy = grind (arith, common_steps)
-
 pub returns-in-run : goal.returns-in-run
 returns-in-run c =
     run_by string_bytes c.args.words.now c.command-item.result c.word-item.result c.named_strategy.result c.command-item.is c.word-item.is (omega (arith, c.in-len3.len_at_least, c.in-len3.len_below))

@@ -3,9 +3,10 @@ use Rattle.std.specs.Prelude.{None, Some, option_map, slice_get}
 use Rattle.std.proofs.lemmas.List.{map_push}
 use Rattle.redis_cluster.specs.Plan.{Plan}
 use Rattle.redis_cluster.specs.Sends.{Target, targets}
-use Rattle.uses.proofs.Handing.{take_there, take_past, zip_within}
+use Rattle.uses.proofs.Handing.{take_past, zip_within}
 use Rattle.uses.proofs.batcher.send_parts.Goals as goal
 use Rattle.uses.proofs.batcher.send_parts.Goals.{in-Some+in_ok-push, in_default}
+use Rattle.redis_batch_bytes.proofs.Lists.{take_next}
 
 -- what holds whatever a result is
 if_ok : {T E A : Type 0} (r : Result T E) → A → OnOk r A
@@ -46,7 +47,7 @@ loop-number-preserved g c =
           rw w.parts-is (ap (map _) w.in_ok-push.ensures.items
           ∙ map_push _ c.loop-number.parts.items w.in-Some.target
           ∙ ap (λ front. front ++ (w.in-Some.target.0.now, w.in-Some.target.1.now) ∷ []) c.loop-number.invariant
-          ∙ sym (take_there (targets plan) number (w.in-Some.target.0.now, w.in-Some.target.1.now) there))
+          ∙ sym (take_next (targets plan) number (w.in-Some.target.0.now, w.in-Some.target.1.now) there))
       | in_default w ↦
           let none : slice_get (targets plan) number ≡ None = sym c.target_of.ensures ∙ ap (option_map _) w.in_default.is in
           rw w.parts-is (c.loop-number.invariant ∙ sym (take_past (targets plan) number none))

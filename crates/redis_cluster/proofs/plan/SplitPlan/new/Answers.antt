@@ -1,4 +1,4 @@
-use Rattle.std.proofs.Common.{◌≡◌, ◌⊎◌, ℕ, List, [], Option, Some, IfSome, Result, Ok, Err, IsErrAnd, IfErr, refl, ap, sym, subst, ◌∙◌, false, length, map, option_map, replicate, arith}
+use Rattle.std.proofs.Common.{◌≡◌, ◌⊎◌, ℕ, List, [], Some, IfSome, Result, Ok, Err, IsErrAnd, IfErr, refl, ap, sym, subst, ◌∙◌, false, length, map, option_map, replicate, arith}
 use Rattle.std.specs.List.{AllZip}
 use Rattle.std.specs.declared.alloc.Global.{Global}
 use Rattle.std.specs.declared.vec.Vec.{Vec}
@@ -26,6 +26,7 @@ use Rattle.redis_cluster.proofs.Planned.{joining_routes, made_parts, ready}
 use Rattle.redis_cluster.proofs.Wider.{own_nodes}
 use Rattle.redis_cluster.proofs.Telling.{length-told, none_told}
 use Rattle.redis_cluster.proofs.plan.SplitPlan.new.Goals as goal
+use Rattle.redis_cluster.proofs.Constructors.{of_some}
 
 -- why there are no nodes for the routes of a command
 fault_of_nodes : (entries : List (RangeEntry SlotNodes)) (names : Names) (args : Arguments) (routes : List (SlotRoute × Vec ℕ Global)) →
@@ -38,10 +39,6 @@ fault_of_nodes entries names args routes h1 h2 fault h3 = grind (arith, routes_a
 err_from : {T E : Type 0} (P Q : E → Type 0) (r : Result T E) → IsErrAnd r P → ((e : E) → P e → Q e) → IfErr r Q
 err_from P Q (Ok x) is gives = tt
 err_from P Q (Err e) is gives = gives e is
-
--- what holds of an option that is there
-of_some : {X : Type 0} (P : X → Type 0) (o : Option X) (x : X) → o ≡ Some x → IfSome o P → P x
-of_some P o x is holds = subst (λ v. IfSome v P) is holds
 
 pub returns-in_err-nodes-clause-fault : goal.returns-in_err-nodes-clause-fault
 returns-in_err-nodes-clause-fault g c =
