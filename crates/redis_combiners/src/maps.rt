@@ -61,7 +61,7 @@ fn collect_pairs(
     ensures { IfOk result (λ pairs. option_map (λ p. plain_pairs p.items) pairs
         ≡ all_pairs (map view values.items)) }
 {
-    let mut pairs = Vec::new(alloc);
+    let mut pairs = Vec::with_capacity(alloc, pair_room(&values))?;
     for value in values {
         let Some(items) = value.into_array() else {
             return Ok(None);
@@ -73,13 +73,19 @@ fn collect_pairs(
     Ok(Some(pairs))
 }
 
+/// How many pairs the replies have, if each is an array of keys and numbers in turn.
+fn pair_room(values: &[Value]) -> usize {
+    values.iter().fold(0_usize, |room, value| {
+        room.saturating_add(value.as_array().map_or(0, |items| items.len() / 2))
+    })
+}
+
 /// Adds the pairs of the items, if these are bulk strings and numbers in turn.
 fn add_pairs(pairs: &mut Vec<(Vec<u8>, i64)>, items: Vec<Value>) -> Result<bool, AllocError>
     ensures { IfOk result (λ ok. option_map (λ found. plain_pairs pairs.old.items ++ found)
         (pairs_among (map view items.items))
         ≡ (if ok then Some (plain_pairs pairs.new.items) else None)) }
 {
-    pairs.reserve(items.len() / 2)?;
     let mut rest = items.into_iter();
     while let Some(key) = rest.next() {
         let Some(number) = rest.next() else {
