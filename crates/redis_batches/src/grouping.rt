@@ -1,7 +1,5 @@
-ghost use Rattle.std.specs.Prelude.{◌≡◌, ◌<◌, ℕ, Some, IfOk, MatchOption, cond, length, map, slice_get};
+ghost use Rattle.std.specs.Prelude.{◌≡◌, ◌<◌, ℕ, Some, IfOk, length, map, slice_get};
 ghost use Rattle.std.specs.List.{All};
-ghost use Rattle.cluster_slots.specs.Address.{Address, same_address};
-ghost use Rattle.cluster_map.specs.Numbered.{AreNumbered};
 ghost use Rattle.redis_batches.specs.Grouped.{places_in};
 
 use std::alloc::{AllocError, Global};
