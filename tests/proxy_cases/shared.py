@@ -328,7 +328,7 @@ def use_keys(number, over, counts):
 
 def try_move():
     """While a slot moves, each value that clients read is the one that was written last. A command over
-    several keys is tried until the move ends, which takes ten seconds on a busy machine."""
+    several keys is tried until the move ends, which may take ten seconds on a busy machine."""
     over, counts, piped = threading.Event(), Counter(), Counter()
     clients = [threading.Thread(target=use_keys, args=(it, over, counts)) for it in range(4)]
     clients += [threading.Thread(target=use_pipelines, args=(it, over, piped)) for it in (4, 5)]
