@@ -1,8 +1,8 @@
 -- The order of the replies does not count for their totals.
-use Rattle.std.proofs.Common.{◌≡◌, length, ℕ, ◌+◌, List, [], ◌∷◌, sym, ap, ◌∙◌, refl, arith, map, ℤ, pos, ◌+ℤ◌, Option, Some, None, Bool, true, false, cond}
+use Rattle.std.proofs.Common.{◌≡◌, ◌<◌, ◌≤◌, ◌/◌, ◌^◌, length, ℕ, ◌+◌, List, [], ◌∷◌, sym, ap, ◌∙◌, refl, arith, map, ℤ, pos, ◌+ℤ◌, Option, Some, None, Bool, true, false, cond}
 use Rattle.std.proofs.lemmas.Grind.{common_steps}
 use lib.IntN.{negsuc}
-use Rattle.std.specs.Prelude.{option_map, option_and_then, is_none, is_some, unwrap_or, ◌||◌, sum_by, flat_map}
+use Rattle.std.specs.Prelude.{IfSome, option_map, option_and_then, is_none, is_some, unwrap_or, ◌||◌, sum_by, flat_map}
 use Rattle.std.specs.List.{list_any}
 use Rattle.std.specs.List.Sorted.{IsPermutation}
 use Rattle.std.specs.Str.{bytes_eq}
@@ -16,6 +16,7 @@ use Rattle.resp_core.specs.Reply.{Reply, array_of}
 use Rattle.cluster_slots.specs.Lists.{flatten}
 use Rattle.redis_combiners.specs.KeyNumbers.{KeyNumber, pairs_among, all_pairs}
 use Rattle.redis_combiners.specs.Totals.{map_of_totals, combined_map}
+use Rattle.redis_combiners.proofs.KeyNumbers.{half}
 use Rattle.redis_combiners.proofs.Lists.{all_some_is}
 use Rattle.redis_combiners.proofs.Totals.{or_zero, sum_at, sum_has, same_totals}
 
@@ -82,6 +83,19 @@ total_same q rs others h =
 -- the same of pairs
 pub sum_permuted : (q : List ℕ) (ps qs : List KeyNumber) → IsPermutation ps qs → sum_at q qs ≡ sum_at q ps
 sum_permuted q ps qs h = grind (arith, common_steps, same_option, sum_has q qs, sum_has q ps, list_any-IsPermutation, from_parts (or_zero (sum_at q qs)) (or_zero (sum_at q ps)) (sum_by (downs q) qs) (sum_by (ups q) qs) (sum_by (downs q) ps) (sum_by (ups q) ps) (total_parts q qs) (total_parts q ps), total_parts q qs, total_parts q ps, sum_by-IsPermutation (downs q) ps qs h, sum_by-IsPermutation (ups q) ps qs h)
+
+abbrev pub pair_count : Reply → ℕ
+pair_count r = length (pairs_of_reply r)
+
+-- a reply that is an array has half as many pairs as items, if any
+pub count_half : (r : Reply) (items : List Reply) (n : ℕ) → Some items ≡ array_of r → n ≡ length items → pair_count r ≤ n / 2
+count_half r items n is e = let h = half items n e in rw (← is) (of_pairs (pairs_among items) h)
+  where
+    of_pairs : (o : Option (List KeyNumber)) → IfSome o (λ ps. length ps ≤ n / 2) → length (unwrap_or o []) ≤ n / 2
+    of_pairs o h = grind (arith, common_steps)
+
+pub count_all : (rs : List Reply) (n : ℕ) → (n < 2 ^ 63 → sum_by pair_count rs ≤ n) → IfSome (all_pairs rs) (λ ps. n < 2 ^ 63 → length ps ≤ n)
+count_all rs n h = grind (arith, common_steps, all_are, length-flat_map)
 
 length_same : (rs others : List Reply) → IsPermutation rs others → length (flat_map pairs_of_reply others) ≡ length (flat_map pairs_of_reply rs)
 length_same rs others h = length-flat_map pairs_of_reply others ∙ sum_by-IsPermutation (λ r. length (pairs_of_reply r)) rs others h ∙ sym (length-flat_map pairs_of_reply rs)

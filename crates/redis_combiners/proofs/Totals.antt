@@ -1,5 +1,5 @@
 -- The total of each key, as the sum of its numbers.
-use Rattle.std.proofs.Common.{◌≡◌, Ordering, length, ℕ, ◌^◌, ◌<◌, ℤ, pos, ◌+ℤ◌, List, [], ◌∷◌, Bool, true, false, cond, Option, Some, None, refl, ap, sym, subst, ◌∙◌, arith, map, get_or, fold, Vec, Global}
+use Rattle.std.proofs.Common.{◌≡◌, Ordering, length, ℕ, ◌^◌, ◌<◌, ℤ, pos, ◌+ℤ◌, List, [], ◌∷◌, Bool, true, false, cond, Option, Some, None, refl, ap, sym, subst, ◌∙◌, arith, map, get_or, fold}
 use Rattle.std.proofs.lemmas.Grind.{common_steps}
 use Rattle.std.specs.Prelude.{option_map, unwrap_or, is_some, ◌&&◌, ◌||◌, T}
 use Rattle.std.specs.Ordering.{is_eq, is_lt, nat_cmp}
@@ -19,7 +19,6 @@ use Rattle.resp_core.specs.Reply.{Reply, pairs, pairs_of}
 use Rattle.cluster_slots.specs.Lists.{all_some}
 use Rattle.redis_combiners.specs.Aggregate.{total}
 use Rattle.redis_combiners.specs.KeyNumbers.{KeyNumber, all_pairs}
-use Rattle.redis_combiners.specs.Entries.{total_among}
 use Rattle.redis_combiners.specs.Totals.{has_key, total_of, total_at, ascending_keys, totals, IsListing, reply_pair, combined_map}
 use Rattle.resp_core.proofs.Cases.{by_test}
 
@@ -141,24 +140,6 @@ abbrev pub sum_of_totals : Option ℤ → Option ℤ → Option ℤ
 sum_of_totals None o = o
 sum_of_totals (Some a) None = Some a
 sum_of_totals (Some a) (Some b) = Some (a +ℤ b)
-
--- a total, so far and of the rest
-pub plus_none : (o : Option ℤ) → sum_of_totals o None ≡ o
-plus_none None = refl
-plus_none (Some a) = refl
-
-plus-more : (o t : Option ℤ) (n : ℤ) → sum_of_totals (Some (or_zero o +ℤ n)) t ≡ sum_of_totals o (Some (n +ℤ or_zero t))
-plus-more None None n = ap Some (omega (arith, ints))
-plus-more None (Some b) n = ap Some (omega (arith, ints))
-plus-more (Some a) None n = ap Some (omega (arith, ints))
-plus-more (Some a) (Some b) n = ap Some (omega (arith, ints))
-
-pub sum_at_more : (k q : List ℕ) (n : ℤ) (new old at_k : Option ℤ) (ps : List KeyNumber) (whole : Option ℤ) → new ≡ cond (bytes_eq k q) (Some (or_zero at_k +ℤ n)) old → (bytes_eq k q ≡ true → at_k ≡ old)
-    → sum_of_totals old (sum_at q ((k, n) ∷ ps)) ≡ whole → sum_of_totals new (sum_at q ps) ≡ whole
-sum_at_more k q n new old at_k ps whole e same h = grind (arith, by_test, plus-more)
-
-pub same_key : (k q : List ℕ) (es : List (Vec ℕ Global × ℤ)) → bytes_eq k q ≡ true → total_among es k ≡ total_among es q
-same_key k q es e = ap (total_among es) ((bytes_eq-Decides k q).0 e)
 
 both : (a b : Bool) → T a → T b → T (a && b)
 both true b p q = q

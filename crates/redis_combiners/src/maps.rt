@@ -1,4 +1,4 @@
-ghost use Rattle.std.specs.Prelude.{◌≡◌, ◌++◌, ◌∷◌, [], ◌+ℤ◌, ◌⊎◌, ℕ, pos, List, map, MatchResult, IfOk, OnOk, option_map, unwrap_or, Some, None, if◌then◌else◌, cond, IsPermutation};
+ghost use Rattle.std.specs.Prelude.{◌≡◌, ◌<◌, ◌≤◌, ◌^◌, ◌++◌, ◌∷◌, [], ◌+ℤ◌, ◌⊎◌, ℕ, List, length, map, MatchResult, IfOk, OnOk, IfSome, option_map, Some, None, if◌then◌else◌, IsPermutation};
 ghost use Rattle.std.specs.Str.{bytes_eq};
 ghost use Rattle.std.specs.Ordering.{nat_cmp};
 ghost use Rattle.std.specs.Cmp.Lexicographic.{slice_cmp};
@@ -8,13 +8,39 @@ ghost use Rattle.resp_core.specs.Reply.{Reply};
 ghost use Rattle.resp_core.specs.View.{view, view_pair};
 ghost use Rattle.resp_core.specs.declared.error.ErrorKind.TheVariants.{UnexpectedReturnType};
 ghost use Rattle.cluster_slots.specs.Lists.{all_some};
-ghost use Rattle.redis_combiners.specs.Entries.{plain_pairs, total_among, has_key_at, joined};
+ghost use Rattle.redis_combiners.specs.Entries.{joined};
 ghost use Rattle.redis_combiners.specs.KeyNumbers.{KeyNumber, pairs_among, all_pairs};
-ghost use Rattle.redis_combiners.specs.Totals.{totals, IsListing, reply_pair, combined_map};
+ghost use Rattle.redis_combiners.specs.Totals.{totals, total_at, IsListing, reply_pair, combined_map};
 
 use resp_core::{ErrorKind, RedisError, RedisResult, Value};
 use std::alloc::{AllocError, Global};
 use std::cmp::Ordering;
+use std::marker::Model;
+
+/// A key and the sum of its numbers.
+#[derive(Drop)]
+struct Total {
+    key: Vec<u8>,
+    /// Eight bytes of the key, as one number.
+    rank: u64,
+    sum: i128,
+}
+
+impl Model for Total {
+    ghost use Rattle.redis_combiners.specs.KeyNumbers.{KeyNumber};
+
+    ghost Value = { KeyNumber };
+
+    ghost view = { λ total. (total.key.items, total.sum) };
+}
+
+impl Total {
+    fn has_key(&self, key: &[u8]) -> bool
+        ensures { result ≡ bytes_eq self.now.0 key.now }
+    {
+        self.key.as_slice() == key
+    }
+}
 
 /// Combines replies that are arrays of keys and numbers in turn, as of `PUBSUB NUMSUB`, into one
 /// map. The map has each key, by ascending bytes, with the sum of its numbers. No replies make an
@@ -36,15 +62,13 @@ pub fn combine_map_results(alloc: Global, values: Vec<Value>) -> RedisResult<Val
     ensures any_order { (others : List Reply) → IsPermutation (map view values.items) others
         → combined_map others ≡ combined_map (map view values.items) }
 {
-    let Some(pairs) = collect_pairs(alloc, values)? else {
+    let Some(totals) = add_up(alloc, values)? else {
         return Err(RedisError::from((
             ErrorKind::UnexpectedReturnType,
             "a reply is not an array of keys and numbers in turn",
         )));
     };
-    let totals = add_up(alloc, pairs)?;
-    let ascending = by_key(totals)?;
-    match to_entries(alloc, ascending)? {
+    match to_entries(alloc, by_key(totals))? {
         Some(list) => Ok(Value::Map(list)),
         None => Err(RedisError::from((
             ErrorKind::UnexpectedReturnType,
@@ -53,39 +77,52 @@ pub fn combine_map_results(alloc: Global, values: Vec<Value>) -> RedisResult<Val
     }
 }
 
-/// The pairs of all replies, if each is an array of bulk strings and numbers in turn.
-fn collect_pairs(
-    alloc: Global,
-    values: Vec<Value>,
-) -> Result<Option<Vec<(Vec<u8>, i64)>>, AllocError>
-    ensures { IfOk result (λ pairs. option_map (λ p. plain_pairs p.items) pairs
-        ≡ all_pairs (map view values.items)) }
+/// Totals of the pairs, if each reply is an array of bulk strings and numbers in turn. A key may
+/// have several, whose sum is its total.
+fn add_up(alloc: Global, values: Vec<Value>) -> Result<Option<Vec<Total>>, AllocError>
+    ensures totals { IfOk result (λ sums. (q : List ℕ)
+        → option_map (λ totals. total_at q totals.items) sums
+        ≡ option_map (total_at q) (all_pairs (map view values.items))) }
+    ensures few { OnOk result (IfSome (all_pairs (map view values.items))
+        (λ pairs. length pairs < 2 ^ 63)) }
 {
-    let mut pairs = Vec::with_capacity(alloc, pair_room(&values))?;
+    let mut totals = Vec::with_capacity(alloc, pair_room(&values))?;
     for value in values {
         let Some(items) = value.into_array() else {
             return Ok(None);
         };
-        if !add_pairs(&mut pairs, items)? {
+        if !add_pairs(&mut totals, items)? {
             return Ok(None);
         }
     }
-    Ok(Some(pairs))
+    Ok(Some(totals))
 }
 
-/// How many pairs the replies have, if each is an array of keys and numbers in turn.
-fn pair_room(values: &[Value]) -> usize {
-    values.iter().fold(0_usize, |room, value| {
-        room.saturating_add(value.as_array().map_or(0, |items| items.len() / 2))
-    })
+/// Room for the pairs of all replies.
+fn pair_room(values: &[Value]) -> usize
+    ensures { IfSome (all_pairs (map view values.now))
+        (λ pairs. result < 2 ^ 63 → length pairs ≤ result) }
+{
+    let mut room = 0_usize;
+    for value in values {
+        if let Some(items) = value.as_array() {
+            room = room.saturating_add(items.len() / 2);
+        }
+    }
+    room
 }
 
 /// Adds the pairs of the items, if these are bulk strings and numbers in turn.
-fn add_pairs(pairs: &mut Vec<(Vec<u8>, i64)>, items: Vec<Value>) -> Result<bool, AllocError>
-    ensures { IfOk result (λ ok. option_map (λ found. plain_pairs pairs.old.items ++ found)
+///
+/// Nodes mostly reply with the same keys in one order. So each key is looked for right after the
+/// key before it.
+fn add_pairs(totals: &mut Vec<Total>, items: Vec<Value>) -> Result<bool, AllocError>
+    ensures { IfOk result (λ ok. (q : List ℕ)
+        → option_map (λ pairs. total_at q (totals.old.items ++ pairs))
         (pairs_among (map view items.items))
-        ≡ (if ok then Some (plain_pairs pairs.new.items) else None)) }
+        ≡ (if ok then Some (total_at q totals.new.items) else None)) }
 {
+    let mut place = 0_usize;
     let mut rest = items.into_iter();
     while let Some(key) = rest.next() {
         let Some(number) = rest.next() else {
@@ -97,64 +134,36 @@ fn add_pairs(pairs: &mut Vec<(Vec<u8>, i64)>, items: Vec<Value>) -> Result<bool,
         let Some(n) = number.as_int() else {
             return Ok(false);
         };
-        pairs.push((bytes, n))?;
+        place = add_number(totals, place, bytes, i128::from(n))?;
     }
     Ok(true)
-}
-
-/// Totals of the pairs. A key may have several, whose sum is its total.
-///
-/// Nodes mostly reply with the same keys in one order. So each key is looked for right after the
-/// key before it, and from the first one on again after the last.
-fn add_up(alloc: Global, pairs: Vec<(Vec<u8>, i64)>) -> Result<Vec<(Vec<u8>, i128)>, AllocError>
-    ensures { IfOk result (λ totals. (q : List ℕ)
-        → total_among totals.items q ≡ total_among pairs.items q) }
-{
-    let mut totals = Vec::with_capacity(alloc, pairs.len())?;
-    let mut place = 0_usize;
-    for (key, n) in pairs {
-        place = add_number(&mut totals, place, key, i128::from(n))?;
-    }
-    Ok(totals)
 }
 
 /// Adds a number to the total at index `place` if that has its key, or appends it. Returns the index
 /// to look at for the next key.
 fn add_number(
-    totals: &mut Vec<(Vec<u8>, i128)>,
+    totals: &mut Vec<Total>,
     place: usize,
     key: Vec<u8>,
     number: i128,
 ) -> Result<usize, AllocError>
     ensures { OnOk result ((q : List ℕ)
-        → total_among totals.new.items q
-        ≡ cond (bytes_eq key.items q)
-        (Some (unwrap_or (total_among totals.old.items key.items) (pos 0) +ℤ number))
-        (total_among totals.old.items q)) }
+        → total_at q totals.new.items
+        ≡ total_at q (totals.old.items ++ (key.items, number) ∷ [])) }
 {
-    if has_key(totals, place, &key) {
-        let total = &mut totals[place].1;
-        *total = sum_of(*total, number)?;
-        Ok(place_after(place, totals.len()))
-    } else {
-        totals.push((key, number))?;
-        Ok(place)
-    }
-}
-
-/// The index after one of `count`, and the first after the last.
-fn place_after(place: usize, count: usize) -> usize {
-    let next = place.saturating_add(1);
-    if next < count { next } else { 0 }
-}
-
-/// Whether the total at index `place` has this key.
-fn has_key(totals: &Vec<(Vec<u8>, i128)>, place: usize, key: &Vec<u8>) -> bool
-    ensures { result ≡ has_key_at totals.now.items place key.now.items }
-{
-    match totals.get(place) {
-        Some(entry) => entry.0 == *key,
-        None => false,
+    match totals.get_mut(place) {
+        Some(total) if total.has_key(&key) => {
+            total.sum = sum_of(total.sum, number)?;
+            Ok(place.saturating_add(1))
+        }
+        _ => {
+            totals.push(Total {
+                key,
+                rank: 0,
+                sum: number,
+            })?;
+            Ok(place)
+        }
     }
 }
 
@@ -166,14 +175,14 @@ fn sum_of(total: i128, number: i128) -> Result<i128, AllocError>
 }
 
 /// The number of first bytes that all keys share.
-fn common_lead(totals: &[(Vec<u8>, i128)]) -> usize {
+fn common_lead(totals: &[Total]) -> usize {
     let Some((first, others)) = totals.split_first() else {
         return 0;
     };
-    let mut lead = first.0.as_slice();
+    let mut lead = first.key.as_slice();
     for other in others {
-        if !other.0.starts_with(lead) {
-            let pairs = lead.iter().zip(&other.0);
+        if !other.key.starts_with(lead) {
+            let pairs = lead.iter().zip(&other.key);
             let count = pairs.take_while(|(x, y)| **x == **y).count();
             lead = lead.get(..count).unwrap_or(lead);
         }
@@ -195,62 +204,68 @@ fn number_after(key: &[u8], lead: usize) -> u64 {
     number.wrapping_shl(8 * missing as u32)
 }
 
+/// Sets the ranks of totals to bytes after the ones that all keys share.
+fn set_ranks(totals: &mut Vec<Total>)
+    ensures { totals.new.items ≡ totals.old.items }
+{
+    let lead = common_lead(totals);
+    for index in 0..totals.len() {
+        let total = &mut totals[index];
+        total.rank = number_after(&total.key, lead);
+    }
+}
+
 /// The totals by ascending key.
 ///
-/// A sort by numbers reads no key. After it, mostly the keys ascend, and the sort by keys only sees
+/// A sort by ranks reads no key. After it, mostly the keys ascend, and the sort by keys only sees
 /// that they do.
-fn by_key(mut totals: Vec<(Vec<u8>, i128)>) -> Result<Vec<(Vec<u8>, i128)>, AllocError>
-    ensures same { IfOk result (λ list. IsPermutation totals.items list.items) }
-    ensures ascending { IfOk result (λ list. IsSortedByKey (λ entry. entry.0.items)
-        (slice_cmp nat_cmp) list.items) }
+fn by_key(mut totals: Vec<Total>) -> Vec<Total>
+    ensures same { IsPermutation totals.items result.items }
+    ensures ascending { IsSortedByKey (λ total. total.0) (slice_cmp nat_cmp) result.items }
 {
-    let lead = common_lead(&totals);
-    totals.sort_by_cached_key(|entry: &(Vec<u8>, i128)| number_after(&entry.0, lead))?;
+    set_ranks(&mut totals);
+    totals.sort_unstable_by_key(|total: &Total| total.rank);
     totals.sort_unstable_by(
-        |a: &(Vec<u8>, i128), b: &(Vec<u8>, i128)| -> Ordering
-            ensures { result ≡ slice_cmp nat_cmp a.now.0.items b.now.0.items }
-        { a.0.cmp(&b.0) },
+        |a: &Total, b: &Total| -> Ordering
+            ensures { result ≡ slice_cmp nat_cmp a.now.0 b.now.0 }
+        { a.key.cmp(&b.key) },
     );
-    Ok(totals)
+    totals
 }
 
 /// The totals as pairs of replies, if each fits in an i64. Totals of one key that are side by side
 /// are one.
-fn to_entries(
-    alloc: Global,
-    totals: Vec<(Vec<u8>, i128)>,
-) -> Result<Option<Vec<(Value, Value)>>, AllocError>
+fn to_entries(alloc: Global, totals: Vec<Total>) -> Result<Option<Vec<(Value, Value)>>, AllocError>
     ensures { IfOk result (λ list. option_map (λ v. map view_pair v.items) list
-        ≡ all_some (map reply_pair (joined (plain_pairs totals.items)))) }
+        ≡ all_some (map reply_pair (joined totals.items))) }
 {
     let mut list = Vec::with_capacity(alloc, totals.len())?;
     let mut rest = totals.into_iter();
-    let Some((mut key, mut total)) = rest.next() else {
+    let Some(mut total) = rest.next() else {
         return Ok(Some(list));
     };
-    for (next, number) in rest {
-        if next == key {
-            total = sum_of(total, number)?;
+    for next in rest {
+        if next.key == total.key {
+            total.sum = sum_of(total.sum, next.sum)?;
             continue;
         }
-        if !push_pair(&mut list, key, total)? {
+        if !push_pair(&mut list, total)? {
             return Ok(None);
         }
-        key = next;
-        total = number;
+        total = next;
     }
-    Ok(push_pair(&mut list, key, total)?.then_some(list))
+    Ok(push_pair(&mut list, total)?.then_some(list))
 }
 
 /// Adds a key and its total as replies, if the total fits in an i64.
-fn push_pair(list: &mut Vec<(Value, Value)>, key: Vec<u8>, total: i128) -> Result<bool, AllocError>
+fn push_pair(list: &mut Vec<(Value, Value)>, total: Total) -> Result<bool, AllocError>
     ensures { IfOk result (λ fits.
-        option_map (λ pair. map view_pair list.old.items ++ pair ∷ []) (reply_pair (key.items, total))
+        option_map (λ pair. map view_pair list.old.items ++ pair ∷ []) (reply_pair total)
         ≡ (if fits then Some (map view_pair list.new.items) else None)) }
 {
-    let Ok(n) = i64::try_from(total) else {
+    let Ok(n) = i64::try_from(total.sum) else {
         return Ok(false);
     };
-    list.push((Value::BulkString(key), Value::Int(n)))?;
+    list.push((Value::BulkString(total.key), Value::Int(n)))?;
     Ok(true)
 }

@@ -1,11 +1,20 @@
-use Rattle.std.proofs.Common.{slice_get, to_z, of_z, arith}
+use Rattle.std.proofs.Common.{to_z, of_z, ◌≡◌, ◌∙◌, ap, true, ◌+ℤ◌, rules, set}
+use Rattle.std.specs.Int.{w128}
+use Rattle.std.specs.Str.{bytes_eq}
 use Rattle.std.proofs.lemmas.Int.{to_z-of_z}
-use Rattle.std.proofs.lemmas.Option.{get_or_from_slice_get}
-use Rattle.redis_combiners.proofs.ByKey.{found_entry, total_set, total_pushed}
+use Rattle.redis_combiners.specs.KeyNumbers.{KeyNumber}
+use Rattle.redis_combiners.specs.Totals.{total_at}
+use Rattle.redis_combiners.proofs.ByKey.{total_set}
 use Rattle.redis_combiners.proofs.maps.add_number.Goals as goal
 
-pub returns-in_ok-total : goal.returns-in_ok-total
-returns-in_ok-total c q = grind (arith, found_entry, get_or_from_slice_get, slice_get, total_set, to_z, of_z, to_z-of_z)
-
-pub returns-in_ok-push : goal.returns-in_ok-push
-returns-in_ok-push c q = grind (arith, to_z, of_z, to_z-of_z, total_pushed)
+pub returns-in_ok-total-inside-in-Some : goal.returns-in_ok-total-inside-in-Some
+returns-in_ok-total-inside-in-Some c q =
+    let es = c.args.totals.now.items in
+    let total : KeyNumber = c.in-Some.total.now in
+    let there = c.in-Some.ensures.item in
+    let viewed = c.total.view_is in
+    let tested = c.has_key.ensures in
+    let given = c.deref.ensures in
+    let same : bytes_eq total.0 c.args.key.items ≡ true = search rules in
+    let sum : to_z w128 (of_z w128 c.in_ok-total-inside-in-Some.field-0) ≡ total.1 +ℤ c.args.number = search (rules, to_z-of_z) in
+    rw sum (ap (λ t. total_at q (set es c.args.place (t.0, total.1 +ℤ c.args.number))) viewed ∙ total_set es c.args.place total c.args.key.items c.args.number there.3.0 (there.3.1 total) same q)
