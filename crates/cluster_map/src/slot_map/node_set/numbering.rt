@@ -1,4 +1,4 @@
-ghost use Rattle.std.specs.Prelude.{◌≡◌, IfOk, IfSome};
+ghost use Rattle.std.specs.Prelude.{◌≡◌, [], IfOk, IfSome};
 ghost use Rattle.cluster_map.specs.Targets.{addresses_behind};
 ghost use Rattle.cluster_map.specs.Numbered.{AreNumbered, index_of};
 
@@ -23,22 +23,28 @@ pub fn number_nodes<'a>(
     ensures numbered { IfOk result (λ found. AreNumbered (addresses_behind nodes.now)
         (addresses_behind found.0.items) found.1.items) }
 {
-    match number_few(alloc, nodes)? {
-        Some(found) => Ok(found),
-        None => number_many(alloc, nodes),
-    }
+    let mut numbers = Vec::with_capacity(alloc, nodes.len())?;
+    let found = match number_few(alloc, nodes, &mut numbers)? {
+        Some(few) => few,
+        None => number_many(alloc, nodes, &mut numbers)?,
+    };
+    Ok((found, numbers))
 }
 
-/// The same, unless more than a few nodes differ.
+/// The same, unless more than a few nodes differ. Appends the numbers to the empty list.
 fn number_few<'a>(
     alloc: Global,
     nodes: &[&'a NodeAddress],
-) -> Result<Option<(Vec<&'a NodeAddress>, Vec<usize>)>, AllocError>
+    numbers: &mut Vec<usize>,
+) -> Result<Option<Vec<&'a NodeAddress>>, AllocError>
+    requires { numbers.old.items ≡ [] }
     ensures { IfOk result (λ few. IfSome few (λ found. AreNumbered (addresses_behind nodes.now)
-        (addresses_behind found.0.items) found.1.items)) }
+        (addresses_behind found.items) numbers.new.items)) }
 {
-    let mut found: Vec<&'a NodeAddress> = Vec::new(alloc);
-    let mut numbers = Vec::with_capacity(alloc, nodes.len())?;
+    let mut found: Vec<&'a NodeAddress> = Vec::with_capacity(
+        alloc,
+        nodes.len().min(MOST_COMPARED),
+    )?;
     for node in nodes {
         let number = index_in(&found, *node);
         if number == found.len() {
@@ -49,7 +55,7 @@ fn number_few<'a>(
         }
         numbers.push(number)?;
     }
-    Ok(Some((found, numbers)))
+    Ok(Some(found))
 }
 
 /// The index of a node among others, or how many they are.
@@ -63,20 +69,21 @@ fn index_in(found: &[&NodeAddress], node: &NodeAddress) -> usize
     index
 }
 
-/// The same for any number of nodes.
+/// The same for any number of nodes. Puts the numbers in place of those in the list.
 fn number_many<'a>(
     alloc: Global,
     nodes: &[&'a NodeAddress],
-) -> Result<(Vec<&'a NodeAddress>, Vec<usize>), AllocError>
+    numbers: &mut Vec<usize>,
+) -> Result<Vec<&'a NodeAddress>, AllocError>
     ensures numbered { IfOk result (λ found. AreNumbered (addresses_behind nodes.now)
-        (addresses_behind found.0.items) found.1.items) }
+        (addresses_behind found.items) numbers.new.items) }
 {
     let misses = Cell::new(0);
     let mut seen = NodeSet::new(alloc, nodes, &misses)?;
-    let mut numbers = Vec::with_capacity(alloc, nodes.len())?;
+    numbers.clear();
     for node in nodes {
         let (number, _) = seen.insert_full(*node)?;
         numbers.push(number)?;
     }
-    Ok((seen.into_nodes()?, numbers))
+    seen.into_nodes()
 }
