@@ -1,4 +1,4 @@
-ghost use Rattle.std.specs.Prelude.{◌≡◌, ◌<◌, ◌+◌, ◌*◌, ◌↔◌, [], ◌∷◌, ◌++◌, ℕ, List, IsSome, IfSome, MatchOption, Contains, position, fold, length, replicate, ◌==◌, bit_xor};
+ghost use Rattle.std.specs.Prelude.{◌≡◌, ◌<◌, ◌+◌, ◌*◌, ◌↔◌, [], ◌∷◌, ◌++◌, ℕ, List, IsSome, IfSome, MatchOption, Contains, fold, length, replicate, ◌==◌, bit_xor};
 ghost use Rattle.cluster_slots.specs.HashTag.{HasTag, HasNoTag, IsHashTag};
 ghost use Rattle.cluster_slots.specs.declared.slot.TheConstants.{SLOT_SIZE};
 ghost use Rattle.cluster_slots.specs.KeySlot.{rem, low_bits, zeros_down, crc_of, IsKeySlot, key_slot};

@@ -1,4 +1,4 @@
-ghost use Rattle.std.specs.Prelude.{◌≡◌, ◌≤◌, ◌<◌, List, length, map, take, IfOk, IfErr};
+ghost use Rattle.std.specs.Prelude.{◌≡◌, ◌<◌, List, length, map, take, IfOk, IfErr};
 ghost use Rattle.std.specs.List.{All};
 ghost use Rattle.redis_routing.specs.Registry.{Registrations};
 ghost use Rattle.cluster_map.specs.Numbered.{AreNumbered};

@@ -1,4 +1,4 @@
-ghost use Rattle.std.specs.Prelude.{◌≡◌, ◌++◌, List, IfOk, OnOk};
+ghost use Rattle.std.specs.Prelude.{◌++◌, List, IfOk, OnOk};
 ghost use Rattle.std.specs.List.{flat_map};
 ghost use Rattle.redis_batches.specs.CommandTask.{ArePartsFor, SlotPart, slot_parts, split_parts};
 

@@ -1,4 +1,4 @@
-ghost use Rattle.std.specs.Prelude.{◌≡◌, ◌++◌, ℕ, List, Some, map, length, IfOk, IfErr, MatchResult};
+ghost use Rattle.std.specs.Prelude.{◌≡◌, ◌++◌, ℕ, List, Some, map, IfOk, IfErr, MatchResult};
 ghost use Rattle.resp.specs.Forms.{IsRequest};
 ghost use Rattle.resp.specs.Requests.{RequestErrorCause};
 ghost use Rattle.redis_routing.specs.Command.{is_word};

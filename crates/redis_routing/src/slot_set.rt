@@ -1,4 +1,3 @@
-ghost use Rattle.std.specs.Prelude.{◌≡◌};
 ghost use Rattle.redis_routing.specs.Inner.SlotHash.{read_pair, spread};
 
 use indexmap::IndexSet;

@@ -1,4 +1,4 @@
-ghost use Rattle.std.specs.Prelude.{◌≡◌, ◌++◌, ◌<◌, ◌^◌, ℕ, List, length, map, Ok, true, false, IfOk, IfErr, MatchResult};
+ghost use Rattle.std.specs.Prelude.{◌≡◌, ◌++◌, ◌<◌, ◌^◌, ℕ, List, length, map, Ok, false, IfOk, IfErr, MatchResult};
 ghost use Rattle.resp.specs.Forms.{IsRequest};
 ghost use Rattle.resp.specs.Reading.{IsRead, rest_of};
 ghost use Rattle.resp.specs.Requests.{Tells, byte_at, with_digit, digits_at, line_at, so_many_at, bulk_at, bulks_at, request_at, IsStopIn, fault_at, RequestCause, RequestErrorCause};

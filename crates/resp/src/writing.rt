@@ -1,5 +1,5 @@
 ghost use Rattle.std.specs.Prelude.{ℕ, List, ◌≡◌, ◌++◌, ◌≤◌, ◌<◌, ◌^◌, ◌↔◌, length, decimal, map, OnOk, IfOk, IfErr, IsTrue, Ok};
-ghost use Rattle.std.specs.List.{flat_map, AllByRecursion};
+ghost use Rattle.std.specs.List.{AllByRecursion};
 ghost use Rattle.resp_core.specs.Reply.{simple, replies_of};
 ghost use Rattle.resp_core.specs.View.{view};
 ghost use Rattle.resp.specs.Forms.{line, form, forms, bulk_form, request, IsRequest, depth, depth_items, HasForm, HaveForm, IsInLine, IsForm};

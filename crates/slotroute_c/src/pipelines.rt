@@ -1,4 +1,4 @@
-ghost use Rattle.std.specs.Prelude.{◌≡◌, ◌≢◌, ◌<◌, ℕ, List, true, false, IfOk, IfErr, length};
+ghost use Rattle.std.specs.Prelude.{◌≡◌, ◌≢◌, ◌<◌, ℕ, List, true, false, length};
 ghost use Rattle.redis_bytes.specs.NameLines.{IsFirstBadName};
 ghost use Rattle.redis_batch_bytes.specs.declared.fault.BatchFault as faults;
 ghost use Rattle.redis_batch_bytes.specs.declared.splitting.BatchBytes as declared;

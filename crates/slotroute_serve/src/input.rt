@@ -3,7 +3,6 @@ ghost use Rattle.std.specs.List.{AllZip};
 ghost use Rattle.std.specs.Io.BufRead.{DropsThrough, strip_last};
 ghost use Rattle.cluster_map.specs.Address.{Address};
 ghost use Rattle.cluster_map.specs.SlotNodes.{RangeNodes};
-ghost use Rattle.redis_bytes.specs.NameLines.{fields_of};
 ghost use Rattle.slotroute_serve.specs.Lines.{line_of, leading_lines, after_map, StopsInLine};
 ghost use Rattle.slotroute_serve.specs.MapLines.{Made, made_in, IsNodeField, IsRangeLine, IsMapLine, IsMap};
 ghost use Rattle.slotroute_serve.specs.Output.{first_after_map};
