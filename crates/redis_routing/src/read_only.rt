@@ -88,6 +88,7 @@ fn reach(trees: &mut Vec<BTreeSet<Vec<u8>>>, alloc: Global, spot: usize) -> Resu
     ensures spots { (q : List ℕ) (at : ℕ)
         → is_in q (slice_get trees.new.items at) ≡ is_in q (slice_get trees.old.items at) }
 {
+    trees.reserve(spot.saturating_add(1).saturating_sub(trees.len()))?;
     while trees.len() <= spot {
         trees.push(BTreeSet::new(alloc))?;
     }
