@@ -14,12 +14,12 @@ use crate::faults::code_of;
 use crate::outcomes::Outcome;
 use crate::told::Told;
 use cluster_slots::SlotAddr;
-use redis_bytes::{BytesFault, registry_in};
+use redis_bytes::{BytesFault, Request, registry_in};
 use redis_routing::{
     AggregateOp, LogicalAggregateOp, MultipleNodeRoutingInfo, Names, ReadOnlyNames, ResponsePolicy,
     Routable, RoutingInfo, SingleNodeRoutingInfo,
 };
-use resp::{RequestError, read_request};
+use resp::RequestError;
 use std::alloc::Global;
 
 /// Where a request goes, as numbers that `include/slotroute.h` names.
@@ -102,7 +102,7 @@ fn names_for(alloc: Global, request: &[u8], only_reads: u32) -> Result<ReadOnlyN
     if only_reads == 0 {
         return Ok(names);
     }
-    let command = match read_request(alloc, request) {
+    let command = match Request::read(alloc, request) {
         Ok((command, _)) => command,
         Err(RequestError::Memory) => return Err(BytesFault::Memory),
         Err(RequestError::Fault(_)) => return Ok(names),
