@@ -7,8 +7,11 @@ use cluster_slots::NodeAddress;
 use std::alloc::{AllocError, Global};
 use std::cell::Cell;
 
-/// The most nodes that are found by comparing each.
+/// The most nodes that are found by comparing each in a list of any length.
 const MOST_COMPARED: usize = 8;
+
+/// The length of a list up to which all nodes are found so.
+const SHORT: usize = 32;
 
 /// These nodes, each once by first appearance, and for each given node its number among them. Of
 /// the nodes `n2`, `n1`, `n2` these are `n2` and `n1`, and 0, 1, 0.
@@ -31,7 +34,8 @@ pub fn number_nodes<'a>(
     Ok((found, numbers))
 }
 
-/// The same, unless more than a few nodes differ. Appends the numbers to the empty list.
+/// The same, unless more than a few nodes of a long list differ. Appends the numbers to the empty
+/// list.
 fn number_few<'a>(
     alloc: Global,
     nodes: &[&'a NodeAddress],
@@ -41,14 +45,11 @@ fn number_few<'a>(
     ensures { IfOk result (λ few. IfSome few (λ found. AreNumbered (addresses_behind nodes.now)
         (addresses_behind found.items) numbers.new.items)) }
 {
-    let mut found: Vec<&'a NodeAddress> = Vec::with_capacity(
-        alloc,
-        nodes.len().min(MOST_COMPARED),
-    )?;
+    let mut found: Vec<&'a NodeAddress> = Vec::with_capacity(alloc, nodes.len().min(SHORT))?;
     for node in nodes {
         let number = index_in(&found, *node);
         if number == found.len() {
-            if number == MOST_COMPARED {
+            if number == MOST_COMPARED && nodes.len() > SHORT {
                 return Ok(None);
             }
             found.push(*node)?;

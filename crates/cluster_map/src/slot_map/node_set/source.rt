@@ -17,7 +17,7 @@ pub(crate) trait Source: Copy {
 
 impl<'r, 'a> Source for &'r [&'a NodeAddress] {
     fn room(&self) -> usize {
-        self.len().min(16)
+        self.len().min(MOST_ROOM)
     }
 
     fn write_to(&self, state: &mut DefaultHasher) {
