@@ -22,7 +22,8 @@ pub fn places_by_number(
 {
     let mut places: Vec<Vec<usize>> = Vec::with_capacity(alloc, count)?;
     for _ in 0..count {
-        places.push(Vec::new(alloc))?;
+        // Mostly enough, if the numbers are spread.
+        places.push(Vec::with_capacity(alloc, numbers.len() / count + 4)?)?;
     }
     for (place, number) in numbers.iter().enumerate() {
         places[*number].push(place)?;
