@@ -3,7 +3,7 @@ use crate::slot_range_map::SlotRangeMap;
 use cluster_slots::NodeAddress;
 use std::hash::{DefaultHasher, Hash};
 
-/// The most nodes of a map that room is made for. Many ranges often have few nodes.
+/// The most nodes that room is made for. Many ranges or parts often have few nodes.
 const MOST_ROOM: usize = 2048;
 
 /// What has the nodes of a set.
