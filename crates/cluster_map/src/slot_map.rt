@@ -33,7 +33,7 @@ mod node_set;
 
 pub use crate::slot_range::SlotRange;
 pub use addresses::NodeAddresses;
-pub use node_set::number_nodes;
+pub use node_set::{number_nodes, number_nodes_counting};
 
 /// The nodes that serve a range of slots: a primary and its replicas.
 #[derive(Debug, Drop)]

@@ -1,14 +1,15 @@
 -- What nodes in memory that take batches hold, have been sent, and refuse.
-use Rattle.std.specs.Prelude.{◌≡◌, ◌≤◌, ◌++◌, ℕ, ◌-◌, List, Bool, Option, None, Some, cond, length, map, nat_le, slice_get}
-use Rattle.std.specs.List.{zip}
+use Rattle.std.specs.Prelude.{◌≡◌, ◌≤◌, ◌++◌, ℕ, ◌-◌, List, Bool, Option, None, Some, Ok, Err, [], ◌∷◌, cond, length, map, nat_le, slice_get}
+use Rattle.std.specs.List.{flat_map, zip}
 use Rattle.cluster_slots.specs.Address.{Address}
+use Rattle.resp_core.specs.Answer.{Answer, answer_of}
 use Rattle.resp_core.specs.ErrorParts.{ErrorParts}
 use Rattle.redis_routing.specs.Registry.{Registrations}
 use Rattle.redis_cluster.specs.Trace.{Entry, Ending, refused, entry}
 use Rattle.redis_cluster.specs.State.{State, state}
 use Rattle.redis_cluster.specs.Unsplit.{Keyspace}
 use Rattle.redis_batches.specs.Pipeline.{Task, run_ended}
-use Rattle.redis_batches.specs.Taken.{AreAllowed, IsBegunAtMost, batch_entries, ending_by, task_of}
+use Rattle.redis_batches.specs.Taken.{AreAllowed, Batch, Came, IsBegunAtMost, batch_entries, batch_for, ending_by, task_of}
 use Rattle.redis_batches.specs.Turns.{all_after}
 use Rattle.memory_nodes.specs.Cells.{Cell}
 use Rattle.memory_nodes.specs.Nodes as store
@@ -37,6 +38,19 @@ batch_mark nodes = nodes.mark
 
 abbrev pub batch_state : MemoryBatchNodes → State Cell
 batch_state nodes = state (batch_keyspace nodes) (batch_trace nodes) (batch_mark nodes)
+
+-- the batches that were sent so far, in order
+abbrev pub batches_in : MemoryBatchNodes → List Batch
+batches_in nodes = map (λ noted. batch_for noted.0 noted.1) nodes.sends.items
+
+-- the answers to one batch, if they came
+abbrev pub answers_to : Came → List (List Answer)
+answers_to (Ok answers) = map answer_of answers.items ∷ []
+answers_to (Err error) = []
+
+-- the answers to all batches, in order
+abbrev pub answers_in : MemoryBatchNodes → List (List Answer)
+answers_in nodes = flat_map (λ noted. answers_to noted.2) nodes.sends.items
 
 -- an entry of a plan, or none after the last
 abbrev pub listed : Option (Option ErrorParts) → Option ErrorParts

@@ -1,11 +1,11 @@
-ghost use Rattle.std.specs.Prelude.{◌≡◌, ◌++◌, ◌+◌, ◌∷◌, ◌↔◌, ℕ, [], None, Some, false, true, IfErr, IfOk, OnErr, OnOk, length, map, option_copied};
+ghost use Rattle.std.specs.Prelude.{◌≡◌, ◌++◌, ◌+◌, ◌∷◌, ◌↔◌, ◌⊎◌, ℕ, [], None, Some, false, true, IfErr, IfOk, OnErr, OnOk, length, map, option_copied};
 ghost use Rattle.resp_core.specs.Answer.{answer_of};
 ghost use Rattle.redis_cluster.specs.Trace.{Ending, entry};
 ghost use Rattle.redis_batches.specs.Pipeline.{Task};
-ghost use Rattle.redis_batches.specs.Taken.{ending_by, task_of, IsBegunAtMost, IsTaken, IsUntaken};
+ghost use Rattle.redis_batches.specs.Taken.{batch_for, ending_by, task_of, IsBegunAtMost, IsTaken, IsUntaken};
 ghost use Rattle.memory_nodes.specs.Cells.{Cell, value_at};
 ghost use Rattle.memory_nodes.specs.Steps.{step};
-ghost use Rattle.memory_batches.specs.Nodes.{batch_registered, batch_keyspace, batch_trace, batch_mark, batch_state, refusal_in, may_end, MayRefuseCommand, command_entry, AreAsPlanned, IsBegun};
+ghost use Rattle.memory_batches.specs.Nodes.{answers_in, batches_in, batch_registered, batch_keyspace, batch_trace, batch_mark, batch_state, refusal_in, may_end, MayRefuseCommand, command_entry, AreAsPlanned, IsBegun};
 ghost use Rattle.memory_batches.specs.Strings.{serve};
 
 use crate::answering::answer_or_refuse;
@@ -14,7 +14,7 @@ use crate::trace_entry::BatchEntry;
 use cluster_slots::NodeAddress;
 use memory_nodes::MemoryNodes;
 use redis_batches::BatchNodes;
-use redis_cluster::driver::{Nodes, SendError};
+use redis_cluster::driver::{Log, Nodes, SendError};
 use redis_routing::Registry;
 use resp_core::{Cmd, RedisError, Value};
 use std::alloc::{AllocError, Global};
@@ -40,6 +40,8 @@ pub struct MemoryBatchNodes {
     /// How many entries the trace had when the plan was made.
     base: usize,
     mark: bool,
+    /// The batches and what came of them, which only proofs read.
+    sends: Log<NodeAddress, Cmd, Result<Vec<Result<Value, RedisError>>, SendError>>,
 }
 
 impl MemoryBatchNodes {
@@ -70,6 +72,7 @@ impl MemoryBatchNodes {
             plan: Vec::new(alloc),
             base: 0,
             mark: false,
+            sends: Log::new(),
         }
     }
 }
@@ -129,6 +132,7 @@ impl MemoryBatchNodes {
             → IsBegunAtMost (Some task) (batch_keyspace self.old) (batch_keyspace self.new)) }
         ensures plan { self.new.plan ≡ self.old.plan }
         ensures base { self.new.base ≡ self.old.base }
+        ensures sends { self.new.sends ≡ self.old.sends }
         ensures registered { batch_registered self.new ≡ batch_registered self.old }
     {
         let refusal = self.next_refusal()?;
@@ -158,6 +162,7 @@ impl MemoryBatchNodes {
             self.old self.new) }
         ensures plan { self.new.plan ≡ self.old.plan }
         ensures base { self.new.base ≡ self.old.base }
+        ensures sends { self.new.sends ≡ self.old.sends }
         ensures registered { batch_registered self.new ≡ batch_registered self.old }
     {
         for cmd in batch {
@@ -181,6 +186,10 @@ impl BatchNodes for MemoryBatchNodes {
 
     ghost may_refuse = { MayRefuseCommand };
 
+    ghost asked = { λ nodes batches. batches ≡ batches_in nodes };
+
+    ghost gave = { λ nodes answers. answers ≡ answers_in nodes };
+
     fn registry(&self) -> &Registry {
         self.store.registry()
     }
@@ -201,6 +210,17 @@ impl BatchNodes for MemoryBatchNodes {
         // Exactly the commands were refused that the plan refuses.
         ensures as_planned { OnOk result (AreAsPlanned self.old self.new) }
         ensures mark { OnOk result (batch_mark self.new ≡ false) }
+        // The batch is the next of those so far, unless memory ran out before it,
+        ensures asked { OnOk result (batches_in self.new
+            ≡ batches_in self.old ++ batch_for node.now (map (λ cmd. cmd.now) batch.now) ∷ []) }
+        ensures asked_untaken { IfErr result (λ error. ((error ≡ SendError.Memory → ⊥)
+            × (batches_in self.new ≡ batches_in self.old
+            ++ batch_for node.now (map (λ cmd. cmd.now) batch.now) ∷ []))
+            ⊎ ((error ≡ SendError.Memory) × (batches_in self.new ≡ batches_in self.old))) }
+        // and so are its answers.
+        ensures gave { IfOk result (λ answers. answers_in self.new
+            ≡ answers_in self.old ++ map answer_of answers.items ∷ []) }
+        ensures gave_none { OnErr result (answers_in self.new ≡ answers_in self.old) }
         // A batch fails only if memory runs out.
         ensures only { OnErr result (batch_mark self.new ≡ true) }
         ensures untaken { IfErr result (λ error. IsUntaken step serve (batch_registered self.old)
@@ -215,11 +235,13 @@ impl BatchNodes for MemoryBatchNodes {
             self.mark = true;
             return Err(SendError::Memory);
         };
-        let Ok(()) = self.take_all(node, batch, &mut answers) else {
-            self.mark = true;
-            return Err(SendError::Lost(RedisError::from(AllocError)));
+        let taken = self.take_all(node, batch, &mut answers);
+        self.mark = taken.is_err();
+        let came = match taken {
+            Ok(()) => Ok(answers),
+            Err(error) => Err(SendError::Lost(RedisError::from(error))),
         };
-        self.mark = false;
-        Ok(answers)
+        self.sends = self.sends.and(node, batch, &came);
+        came
     }
 }

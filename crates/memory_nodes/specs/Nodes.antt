@@ -1,6 +1,9 @@
 -- What nodes in memory hold, have been sent, and refuse.
 use Rattle.std.specs.Prelude.{◌≡◌, ◌⊎◌, ℕ, ◌+◌, ◌-◌, ◌≤◌, List, Bool, true, false, cond, Option, None, Some, map, codes, nat_le, slice_get}
+use Rattle.std.specs.List.{flat_map}
 use Rattle.resp_core.specs.ErrorParts.{ErrorParts}
+use Rattle.resp_core.specs.Reply.{Reply}
+use Rattle.resp_core.specs.View.{view}
 use Rattle.resp_core.specs.declared.error.ErrorKind.TheVariants.{Client}
 use Rattle.redis_routing.specs.Registry.{Registrations}
 use Rattle.redis_routing.specs.declared.info.Redirect.{Redirect}
@@ -59,6 +62,14 @@ registered_in nodes = nodes.registry
 
 abbrev pub trace_in : MemoryNodes → List Entry
 trace_in nodes = map entry_of nodes.trace.items
+
+-- the replies to one send: one if the node answered
+abbrev pub replies_to : TraceEntry → List Reply
+replies_to e = map (λ noted. view noted.2) e.reply.items
+
+-- the replies to all sends of the trace, in order
+abbrev pub replies_in : MemoryNodes → List Reply
+replies_in nodes = flat_map replies_to nodes.trace.items
 
 -- whether the last send ran out of memory
 abbrev pub mark_in : MemoryNodes → Bool

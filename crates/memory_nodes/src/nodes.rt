@@ -6,7 +6,7 @@ ghost use Rattle.redis_cluster.specs.Sent.{IsLeft, IsUnanswered, ending_of};
 ghost use Rattle.redis_cluster.specs.Trace.{Ending, answered, refused, redirected, entry};
 ghost use Rattle.redis_cluster.specs.Unsplit.{keyspace_after, reply_to};
 ghost use Rattle.memory_nodes.specs.Cells.{Cell, value_at};
-ghost use Rattle.memory_nodes.specs.Nodes.{registered_in, keyspace_in, trace_in, mark_in, state_in, fuse_in, planned_in, planned_for, EndsSo, MayRefuse, IsFused, entry_of, node_refused};
+ghost use Rattle.memory_nodes.specs.Nodes.{registered_in, keyspace_in, trace_in, mark_in, state_in, fuse_in, planned_in, planned_for, replies_in, EndsSo, MayRefuse, IsFused, entry_of, node_refused};
 ghost use Rattle.memory_nodes.specs.Steps.{step};
 
 use crate::cells::{Cells, value_at};
@@ -166,12 +166,15 @@ impl MemoryNodes {
             (trace_in self.new ≡ trace_in self.old ++ entry node.now cmd.now answered ∷ []) }
         ensures memory { OnErr result ((keyspace_in self.new ≡ keyspace_in self.old)
             × (trace_in self.new ≡ trace_in self.old)) }
+        ensures replied { IfOk result
+            (λ value. replies_in self.new ≡ replies_in self.old ++ view value ∷ []) }
+        ensures unreplied { OnErr result (replies_in self.new ≡ replies_in self.old) }
         ensures fuse { self.new.fuse ≡ self.old.fuse }
         ensures plan { self.new.plan ≡ self.old.plan }
         ensures base { self.new.base ≡ self.old.base }
         ensures registered { registered_in self.new ≡ registered_in self.old }
     {
-        let entry = TraceEntry::with_answer(self.alloc, node, cmd)?;
+        let mut entry = TraceEntry::with_answer(self.alloc, node, cmd)?;
         reserve_entry(&mut self.trace)?;
         let reply = run(
             self.alloc,
@@ -180,6 +183,7 @@ impl MemoryNodes {
             cmd,
             &entry.args,
         )?;
+        entry.reply = entry.reply.and(&(), &[], &reply);
         self.trace.push_reserved(entry);
         Ok(reply)
     }
@@ -191,6 +195,7 @@ impl MemoryNodes {
             (trace_in self.new ≡ trace_in self.old ++ entry node.now cmd.now
             (refused node_refused) ∷ []) }
         ensures memory { OnErr result (trace_in self.new ≡ trace_in self.old) }
+        ensures unreplied { replies_in self.new ≡ replies_in self.old }
         ensures keyspace { keyspace_in self.new ≡ keyspace_in self.old }
         ensures fuse { self.new.fuse ≡ self.old.fuse }
         ensures plan { self.new.plan ≡ self.old.plan }
@@ -214,6 +219,7 @@ impl MemoryNodes {
             (trace_in self.new ≡ trace_in self.old ++ entry node.now cmd.now
             (redirected redirect) ∷ []) }
         ensures memory { OnErr result (trace_in self.new ≡ trace_in self.old) }
+        ensures unreplied { replies_in self.new ≡ replies_in self.old }
         ensures keyspace { keyspace_in self.new ≡ keyspace_in self.old }
         ensures fuse { self.new.fuse ≡ self.old.fuse }
         ensures plan { self.new.plan ≡ self.old.plan }
@@ -249,6 +255,8 @@ impl Nodes for MemoryNodes {
 
     ghost may_refuse = { MayRefuse };
 
+    ghost gave = { λ nodes replies. replies ≡ replies_in nodes };
+
     fn registry(&self) -> &Registry {
         &self.registry
     }
@@ -266,6 +274,10 @@ impl Nodes for MemoryNodes {
         ensures trace { OnOk result
             (trace_in self.new ≡ trace_in self.old ++ entry node.now cmd.now answered ∷ []) }
         ensures mark { OnOk result (mark_in self.new ≡ false) }
+        // A reply is the next of those so far.
+        ensures replied { IfOk result
+            (λ value. replies_in self.new ≡ replies_in self.old ++ view value ∷ []) }
+        ensures unreplied { OnErr result (replies_in self.new ≡ replies_in self.old) }
         ensures unanswered { IfErr result
             (λ error. IsUnanswered (MayRefuse self.old) (trace_in self.old) (trace_in self.new)
             (mark_in self.new) node.now cmd.now (ending_of error)) }

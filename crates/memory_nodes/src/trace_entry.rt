@@ -1,9 +1,10 @@
-ghost use Rattle.std.specs.Prelude.{◌≡◌, IfOk, IsTrue, None, true, false};
+ghost use Rattle.std.specs.Prelude.{◌≡◌, [], IfOk, IsTrue, None, true, false};
 ghost use Rattle.memory_nodes.specs.Parts.{words};
 
 use cluster_slots::NodeAddress;
+use redis_cluster::driver::Log;
 use redis_routing::Redirect;
-use resp_core::Cmd;
+use resp_core::{Cmd, Value};
 use std::alloc::{AllocError, Global};
 
 /// What one send did: where the command went, its arguments, and whether the node answered it,
@@ -18,6 +19,8 @@ pub struct TraceEntry {
     pub answered: bool,
     /// Where the node redirected the client, if it did.
     pub redirect: Option<Redirect>,
+    /// The reply of the node, which only proofs read.
+    pub(super) reply: Log<(), (), Value>,
     ghost one_ending: { IsTrue answered → redirect ≡ None },
 }
 
@@ -31,12 +34,14 @@ impl TraceEntry {
         ensures node { IfOk result (λ entry. entry.node ≡ node.now) }
         ensures args { IfOk result (λ entry. words entry.args.items ≡ cmd.now) }
         ensures answered { IfOk result (λ entry. entry.answered ≡ true) }
+        ensures reply { IfOk result (λ entry. entry.reply.items ≡ []) }
     {
         Ok(TraceEntry {
             node: node.clone()?,
             args: copy_args(alloc, cmd)?,
             answered: true,
             redirect: None,
+            reply: Log::new(),
         })
     }
 
@@ -51,12 +56,14 @@ impl TraceEntry {
         ensures args { IfOk result (λ entry. words entry.args.items ≡ cmd.now) }
         ensures answered { IfOk result (λ entry. entry.answered ≡ false) }
         ensures redirect { IfOk result (λ entry. entry.redirect ≡ redirect) }
+        ensures reply { IfOk result (λ entry. entry.reply.items ≡ []) }
     {
         Ok(TraceEntry {
             node: node.clone()?,
             args: copy_args(alloc, cmd)?,
             answered: false,
             redirect,
+            reply: Log::new(),
         })
     }
 }

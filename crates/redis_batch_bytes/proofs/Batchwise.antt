@@ -1,5 +1,5 @@
 -- A plan is told the answers to its batches, one batch after the other.
-use Rattle.std.proofs.Common.{◌≡◌, ◌<◌, ◌≤◌, ◌+◌, ◌-◌, ◌⊎◌, inl, inr, ℕ, List, [], ◌∷◌, ◌++◌, Some, Result, Ok, option_map, true, All, refl, sym, ap, subst, ◌∙◌, arith, get_or, length, map, take}
+use Rattle.std.proofs.Common.{◌≡◌, ◌<◌, ◌≤◌, ◌+◌, ℕ, List, [], ◌∷◌, ◌++◌, Some, Result, true, All, refl, sym, ap, subst, ◌∙◌, arith, get_or, length, map, take}
 use Rattle.std.proofs.lemmas.Grind.{common_steps}
 use Rattle.std.specs.Prelude.{nat_eq, slice_get}
 use Rattle.std.specs.List.{concat}
@@ -7,26 +7,25 @@ use Rattle.std.proofs.lemmas.Bool.{eqb-true}
 use Rattle.std.proofs.lemmas.Bool.Decides.{nat_tests}
 use Rattle.std.proofs.lemmas.List.{length-append, length-map, map-append}
 use Rattle.std.proofs.lemmas.List.Elements.{All-contains}
-use Rattle.std.proofs.lemmas.Option.{same_Some, slice_get-map}
+use Rattle.std.proofs.lemmas.Option.{same_Some}
 use Rattle.resp_core.specs.Answer.{Answer, answer_of}
 use Rattle.resp_core.proofs.Cases.{by_test}
 use Rattle.resp_core.specs.ErrorParts.{ErrorParts}
-use Rattle.resp_core.specs.View.{view}
 use Rattle.resp_core.specs.declared.value.Value.{Value}
 use Rattle.redis_cluster.specs.Orders.{in_order}
 use Rattle.redis_cluster.proofs.Orders.{in_order-append, length-in_order}
-use Rattle.redis_bytes.specs.Replies.{HasNoForm, IsAnswer}
+use Rattle.redis_bytes.specs.Replies.{IsAnswer}
 use Rattle.redis_batches.specs.Batched.{IsRight, put_at}
 use Rattle.redis_batches.specs.Plan.{Batches}
 use Rattle.redis_batches.specs.PipelinePlan.{PipelineBatches}
 use Rattle.redis_batches.specs.Replies.{AreRepliesFor}
 use Rattle.redis_batches.proofs.Putting.{length-put_at, put_kept, put_right}
+use Rattle.redis_batch_bytes.specs.Plans.{EachIsSent}
+use Rattle.redis_batch_bytes.specs.Replies.{BatchesAreAnswered, AreByBatch, AreTold, StandAsTold}
+use Rattle.redis_batch_bytes.specs.Told.{answer_of_wire}
+use Rattle.redis_batch_bytes.specs.Unread.{IsFirstNoAnswer, IsNoAnswer, IsUnreadAnswer}
 use Rattle.redis_batch_bytes.specs.declared.fault.BatchFault.{BatchFault}
 use Rattle.redis_batch_bytes.specs.declared.fault.BatchFault.TheVariants as faults
-use Rattle.redis_batch_bytes.specs.Plans.{EachIsSent}
-use Rattle.redis_batch_bytes.specs.Replies.{BatchesAreAnswered, AreByBatch, AreTold, AreUnwritten, IsUncombinedBy, StandAsTold}
-use Rattle.redis_batch_bytes.specs.Told.{answer_of_wire}
-use Rattle.redis_batch_bytes.specs.Unread.{AreUnreadAnswers}
 use Rattle.redis_batch_bytes.proofs.Fronts.{more_stand}
 use Rattle.redis_batch_bytes.proofs.Lists.{are_for, concat_more, same_lists, split_right, within}
 
@@ -44,6 +43,31 @@ more_told bytes rest after given own so_far next =
 
 pub none_told : (bytes : List ℕ) → StandAsTold bytes bytes []
 none_told bytes = record { said = []; front = []; bytes_are = refl; are = refl; given_are = refl }
+
+-- the answer of this number is the first that is not read
+first_no_answer : (batch number count : ℕ) (bytes rest : List ℕ) (given : List Answer) (fault : BatchFault) → StandAsTold bytes rest given → length given ≡ number → number < count → IsNoAnswer batch number rest fault
+    → IsFirstNoAnswer batch count bytes fault
+first_no_answer batch number count bytes rest given fault stand long few why =
+    let many : length stand.said ≡ number = sym (length-map stand.said answer_of_wire) ∙ sym (ap length stand.given_are) ∙ long in
+    record {
+      said = stand.said;
+      front = stand.front;
+      rest = rest;
+      bytes_are = stand.bytes_are;
+      are = stand.are;
+      few = omega (arith, many, few);
+      next = subst (λ n. IsNoAnswer batch n rest fault) (sym many) why;
+    }
+
+pub no_answer : (batch number count : ℕ) (bytes rest : List ℕ) (given : List Answer) → StandAsTold bytes rest given → length given ≡ number → number < count → (fault : BatchFault) → IsNoAnswer batch number rest fault
+    → IsUnreadAnswer batch count bytes fault
+no_answer batch number count bytes rest given stand long few faults.Memory why = tt
+no_answer batch number count bytes rest given stand long few faults.NoForm why = absurd why
+no_answer batch number count bytes rest given stand long few (faults.Request n f) why = absurd why
+no_answer batch number count bytes rest given stand long few (faults.NotRoutable n) why = absurd why
+no_answer batch number count bytes rest given stand long few (faults.NotCovered n s) why = absurd why
+no_answer batch number count bytes rest given stand long few (faults.Reply b n f) why = first_no_answer batch number count bytes rest given (faults.Reply b n f) stand long few why
+no_answer batch number count bytes rest given stand long few (faults.AfterReplies n) why = absurd why
 
 -- after so many batches
 pub record SoFar (places : List (List ℕ)) (answers : List (Result Value ErrorParts)) (count : ℕ) (bytes rest : List ℕ) : Type 0 where
@@ -117,29 +141,3 @@ module _ (plan : PipelineBatches) (answers : List (Result Value ErrorParts)) (by
     long = told_are.long;
     replies = λ all by. (found, subst (λ (l : List Answer). AreRepliesFor plan.splits l found) (has_all plan.batches answers bytes told_are sent room all by) are, so);
   }
-
-  pub uncombined : (fault : BatchFault) → AreUnwritten found fault → IsUncombinedBy plan bytes fault
-  uncombined faults.Memory none = tt
-  uncombined (faults.NoForm n) none = answered (λ replies. AreUnwritten replies (faults.NoForm n)) none
-  uncombined (faults.Request n f) none = absurd none
-  uncombined (faults.NotRoutable n) none = absurd none
-  uncombined (faults.NotCovered n s) none = absurd none
-  uncombined (faults.Reply b n f) none = absurd none
-  uncombined (faults.AfterReplies n) none = absurd none
-
--- answers that are not read
-pub unread_uncombined : (plan : PipelineBatches) (bytes : List ℕ) (fault : BatchFault) → AreUnreadAnswers plan.batches.places bytes fault → IsUncombinedBy plan bytes fault
-unread_uncombined plan bytes faults.Memory is = tt
-unread_uncombined plan bytes (faults.NoForm n) is = absurd is.next.next
-unread_uncombined plan bytes (faults.Request n f) is = is
-unread_uncombined plan bytes (faults.NotRoutable n) is = is
-unread_uncombined plan bytes (faults.NotCovered n s) is = is
-unread_uncombined plan bytes (faults.Reply b n f) is = is
-unread_uncombined plan bytes (faults.AfterReplies n) is = is
-
--- why a reply is not written
-pub unwritten : (replies : List (Result Value ErrorParts)) (number : ℕ) (value : Value) (fault : BatchFault) → slice_get replies number ≡ Some (Ok value)
-    → (fault ≡ faults.Memory) ⊎ ((fault ≡ faults.NoForm number) × HasNoForm (view value)) → AreUnwritten (map answer_of replies) fault
-unwritten replies number value fault at (inl memory) = subst (AreUnwritten (map answer_of replies)) (sym memory) tt
-unwritten replies number value fault at (inr no_form) =
-    subst (AreUnwritten (map answer_of replies)) (sym no_form.0) (view value, slice_get-map answer_of replies number ∙ ap (option_map answer_of) at, no_form.1)

@@ -85,7 +85,7 @@ unplanned registered numbers bytes commands (faults.NotCovered n s) are none = (
 unplanned registered numbers bytes commands (faults.Request n f) are none = absurd none
 unplanned registered numbers bytes commands (faults.Reply b n f) are none = absurd none
 unplanned registered numbers bytes commands (faults.AfterReplies n) are none = absurd none
-unplanned registered numbers bytes commands (faults.NoForm n) are none = absurd none
+unplanned registered numbers bytes commands faults.NoForm are none = absurd none
 
 -- the addresses of nodes have their numbers
 pub ports : (nodes : List ℕ) → nodes ≡ map (λ (node : Address). node.port) (map address_of_number nodes)

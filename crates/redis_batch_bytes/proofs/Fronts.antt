@@ -1,5 +1,5 @@
 -- Items that stand at the front of some bytes, one after the other.
-use Rattle.std.proofs.Common.{◌≡◌, ◌+◌, ℕ, List, [], ◌∷◌, ◌++◌, append_assoc, append-nil, refl, sym, ap, subst, ◌∙◌}
+use Rattle.std.proofs.Common.{◌≡◌, ℕ, List, [], ◌∷◌, ◌++◌, append_assoc, append-nil, refl, sym, ap, subst, ◌∙◌}
 use Rattle.resp.specs.Forms.{InOrder}
 
 module _ {X : Type 0} (Each : X → List ℕ → Type 0) where

@@ -6,3 +6,4 @@ pub mod Parted
 pub mod Numbering
 pub mod ByTable
 pub mod OneReply
+pub mod Writable

@@ -15,7 +15,7 @@ use Rattle.redis_routing.specs.declared.policy.ResponsePolicy.TheVariants.{OneSu
 use Rattle.redis_commands.specs.Answers.{answers_given, first_error, last_error}
 use Rattle.redis_commands.specs.Policy.{Combined, Returns, of_target, or_refused, refused, reply_by_policy, reply_or, unless_error}
 use Rattle.redis_commands.specs.Rule.{IsCombined, by_policy}
-use Rattle.redis_bytes.specs.Replies.{HasNoForm}
+use Rattle.redis_bytes.specs.Replies.{IsWritable}
 use Rattle.redis_batch_bytes.specs.declared.fault.BatchFault.{BatchFault}
 use Rattle.redis_batch_bytes.specs.declared.fault.BatchFault.TheVariants.{Memory, NoForm}
 use Rattle.redis_batch_bytes.specs.Several.{HasNoReplyForm, IsReplyForm, without_map}
@@ -122,8 +122,8 @@ module _ (policy : Option ResponsePolicy) (xs : List (Result Value ErrorParts)) 
       subst (IsReplyForm bytes.items) (sym (returns_made policy xs given (Ok value) are combined (λ out. absurd (cc out)))) written
 
   pub value_faults : (value : Value) (r : Result (Vec ℕ Global) BatchFault) → (list_any is_none given ≡ false → IsCombined (by_policy policy) [] (answers_given given) (Ok value))
-      → IfErr r (λ fault. (fault ≡ Memory) ⊎ ((fault ≡ NoForm 0) × HasNoForm (without_map (view value))))
-      → IfErr r (λ fault. (said : List WireAnswer) → map answer_of xs ≡ map answer_of_wire said → (fault ≡ Memory) ⊎ ((fault ≡ NoForm 0) × HasNoReplyForm (made policy xs)))
+      → IfErr r (λ fault. (fault ≡ Memory) ⊎ ((fault ≡ NoForm) × (IsWritable (without_map (view value)) → ⊥)))
+      → IfErr r (λ fault. (said : List WireAnswer) → map answer_of xs ≡ map answer_of_wire said → (fault ≡ Memory) ⊎ ((fault ≡ NoForm) × HasNoReplyForm (made policy xs)))
   value_faults value (Ok bytes) combined is = tt
   value_faults value (Err fault) combined (inl memory) = λ said same. inl memory
   value_faults value (Err fault) combined (inr none) = λ said same.
@@ -137,8 +137,8 @@ module _ (policy : Option ResponsePolicy) (xs : List (Result Value ErrorParts)) 
       error_form (made policy xs) error bytes.items (returns_made policy xs given (Err error) are combined (λ out. written.0 (kind_is error out_of_memory out))) written.1 written.2
 
   pub error_faults : (error : ErrorParts) (r : Result (Vec ℕ Global) BatchFault) → (list_any is_none given ≡ false → IsCombined (by_policy policy) [] (answers_given given) (Err error))
-      → IfErr r (λ fault. (fault ≡ Memory) ⊎ ((fault ≡ NoForm 0) × (error.kind ≡ UnexpectedReturnType)))
-      → IfErr r (λ fault. (said : List WireAnswer) → map answer_of xs ≡ map answer_of_wire said → (fault ≡ Memory) ⊎ ((fault ≡ NoForm 0) × HasNoReplyForm (made policy xs)))
+      → IfErr r (λ fault. (fault ≡ Memory) ⊎ ((fault ≡ NoForm) × (error.kind ≡ UnexpectedReturnType)))
+      → IfErr r (λ fault. (said : List WireAnswer) → map answer_of xs ≡ map answer_of_wire said → (fault ≡ Memory) ⊎ ((fault ≡ NoForm) × HasNoReplyForm (made policy xs)))
   error_faults error (Ok bytes) combined is = tt
   error_faults error (Err fault) combined (inl memory) = λ said same. inl memory
   error_faults error (Err fault) combined (inr misfit) = λ said same.

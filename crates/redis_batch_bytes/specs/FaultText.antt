@@ -17,5 +17,4 @@ batch_fault_text (Reply batch number fault) =
     ++ (codes ": " ++ fault_text fault))))
 batch_fault_text (AfterReplies end) =
     codes "bytes follow the replies, from " ++ (decimal end ++ codes " on")
-batch_fault_text (NoForm number) =
-    codes "the reply to command " ++ (decimal number ++ codes " has no form")
+batch_fault_text NoForm = codes "the answers make no one reply"

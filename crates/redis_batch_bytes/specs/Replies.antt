@@ -1,20 +1,18 @@
 -- The answers to the batches of a plan, as bytes, and the replies to its commands.
-use Rattle.std.specs.Prelude.{◌≡◌, ◌⊎◌, ℕ, List, [], ◌++◌, Some, Ok, Result, length, map, slice_get}
+use Rattle.std.specs.Prelude.{◌≡◌, ◌⊎◌, ℕ, List, [], ◌++◌, Some, Ok, Err, Result, length, map, slice_get}
 use Rattle.std.specs.List.{All, concat, flat_map}
 use Rattle.resp_core.specs.Answer.{Answer}
 use Rattle.resp.specs.Forms.{InOrder}
 use Rattle.resp_core.specs.ErrorParts.{ErrorParts}
-use Rattle.resp_core.specs.Reply.{Reply}
 use Rattle.resp_core.specs.declared.value.Value.{Value}
 use Rattle.redis_routing.specs.Registry.{Registrations}
 use Rattle.redis_cluster.specs.Orders.{in_order}
-use Rattle.redis_bytes.specs.Replies.{HasNoForm, IsAnswer}
+use Rattle.redis_bytes.specs.Replies.{IsAnswer, IsWritable}
 use Rattle.redis_batches.specs.Batched.{IsRight}
 use Rattle.redis_batches.specs.Plan.{Batches}
 use Rattle.redis_batches.specs.PipelinePlan.{PipelineBatches}
 use Rattle.redis_batches.specs.Replies.{AreRepliesFor}
 use Rattle.redis_batch_bytes.specs.declared.fault.BatchFault.{BatchFault}
-use Rattle.redis_batch_bytes.specs.declared.fault.BatchFault.TheVariants.{Memory, NoForm}
 use Rattle.redis_batch_bytes.specs.Plans.{IsPlanOfRequests, IsUnplanned}
 use Rattle.redis_batch_bytes.specs.Told.{WireAnswer, answer_form, answer_of_wire}
 use Rattle.redis_batch_bytes.specs.Unread.{AreUnreadAnswers}
@@ -47,18 +45,10 @@ abbrev pub RepliesAreWritten : PipelineBatches → List ℕ → List ℕ → Typ
 RepliesAreWritten plan bytes combined =
     BatchesAreAnswered plan bytes (λ replies. combined ≡ flat_map answer_form replies)
 
--- why replies are not written: one has no form
-abbrev pub AreUnwritten : List Answer → BatchFault → Type 0
-AreUnwritten replies Memory = Unit {0}
-AreUnwritten replies (NoForm number) = (reply : Reply)
-    × (slice_get replies number ≡ Some (Ok reply)) × HasNoForm reply
-AreUnwritten replies _ = ⊥
-
--- why the answers to the batches of a plan make no replies in bytes
-abbrev pub IsUncombinedBy : PipelineBatches → List ℕ → BatchFault → Type 0
-IsUncombinedBy plan bytes (NoForm number) =
-    BatchesAreAnswered plan bytes (λ replies. AreUnwritten replies (NoForm number))
-IsUncombinedBy plan bytes fault = AreUnreadAnswers plan.batches.places bytes fault
+-- an error, or a reply that can be written
+abbrev pub IsWritableAnswer : Answer → Type 0
+IsWritableAnswer (Ok reply) = IsWritable reply
+IsWritableAnswer (Err error) = Unit {0}
 
 -- why replies to a pipeline are not combined: it has no plan, or the bytes are not the answers to
 -- its batches
@@ -66,7 +56,7 @@ abbrev pub PipelineIsUncombined : Registrations → List ℕ → List ℕ → Li
 PipelineIsUncombined registered numbers requests bytes fault =
     IsUnplanned registered numbers requests fault
     ⊎ ((plan : PipelineBatches) × IsPlanOfRequests registered numbers requests plan
-    × IsUncombinedBy plan bytes fault)
+    × AreUnreadAnswers plan.batches.places bytes fault)
 
 -- The bytes are the answers to all batches. If they are the answers in `all`, batch after batch,
 -- `answers` has that of `all` at each index of each batch.

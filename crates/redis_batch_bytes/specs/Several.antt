@@ -5,7 +5,7 @@ use Rattle.resp_core.specs.Answer.{Answer}
 use Rattle.resp_core.specs.Reply.{Reply, Pairs, array, pairs, no_pairs, pair, replies_of}
 use Rattle.redis_routing.specs.declared.policy.ResponsePolicy.{ResponsePolicy}
 use Rattle.redis_routing.specs.declared.policy.ResponsePolicy.TheVariants.{Special}
-use Rattle.redis_bytes.specs.Replies.{HasNoForm}
+use Rattle.redis_bytes.specs.Replies.{IsWritable}
 use Rattle.redis_commands.specs.Policy.{Combined, of_target, refused, reply_by_policy}
 use Rattle.redis_batch_bytes.specs.declared.fault.BatchFault.{BatchFault}
 use Rattle.redis_batch_bytes.specs.declared.fault.BatchFault.TheVariants.{AfterReplies, NoForm}
@@ -37,9 +37,9 @@ IsReplyForm bytes (Ok reply) = bytes ≡ form (without_map reply)
 IsReplyForm bytes (Err (of_target error)) = bytes ≡ line 45 (said_of error)
 IsReplyForm bytes (Err refused) = ⊥
 
--- there is no one reply in bytes: the values do not fit the policy, or the reply has no form
+-- there is no one reply in bytes: the values do not fit the policy, or the reply cannot be written
 abbrev pub HasNoReplyForm : Combined → Type 0
-HasNoReplyForm (Ok reply) = HasNoForm (without_map reply)
+HasNoReplyForm (Ok reply) = IsWritable (without_map reply) → ⊥
 HasNoReplyForm (Err (of_target error)) = ⊥
 HasNoReplyForm (Err refused) = Unit {0}
 
@@ -54,12 +54,11 @@ pub record AreAnswersBy (policy : Option ResponsePolicy) (count : ℕ) (bytes : 
 
 -- why bytes are not `count` answers that make one reply
 abbrev pub HaveNoReply : Option ResponsePolicy → ℕ → List ℕ → BatchFault → Type 0
-HaveNoReply policy count bytes (NoForm number) =
-    (number ≡ 0) × AreAnswersBy policy count bytes HasNoReplyForm
+HaveNoReply policy count bytes NoForm = AreAnswersBy policy count bytes HasNoReplyForm
 HaveNoReply policy count bytes (AfterReplies end) = AnswersAreFollowed count bytes end
 HaveNoReply policy count bytes fault = IsUnreadAnswer 0 count bytes fault
 
 -- why a policy makes no one reply of bytes
 abbrev pub IsUnreplied : Option ResponsePolicy → ℕ → List ℕ → BatchFault → Type 0
-IsUnreplied policy count bytes fault = ((has_no_addresses policy ≡ false) × (fault ≡ NoForm 0))
+IsUnreplied policy count bytes fault = ((has_no_addresses policy ≡ false) × (fault ≡ NoForm))
     ⊎ ((has_no_addresses policy ≡ true) × HaveNoReply policy count bytes fault)

@@ -1,8 +1,8 @@
 ghost use Rattle.std.specs.Prelude.{◌≡◌, ◌<◌, ◌++◌, ℕ, List, map, length, IfOk, IfErr};
-ghost use Rattle.std.specs.List.{All};
+ghost use Rattle.std.specs.List.{All, AllByRecursion};
 ghost use Rattle.resp_core.specs.Answer.{answer_of};
 ghost use Rattle.redis_bytes.specs.Replies.{IsAnswer};
-ghost use Rattle.redis_batch_bytes.specs.Replies.{AreTold, StandAsTold};
+ghost use Rattle.redis_batch_bytes.specs.Replies.{AreTold, IsWritableAnswer, StandAsTold};
 ghost use Rattle.redis_batch_bytes.specs.Told.{WireAnswer, answer_of_wire};
 ghost use Rattle.redis_batch_bytes.specs.Unread.{AreUnreadAnswers, IsNoAnswer, IsUnreadAnswer};
 
@@ -25,6 +25,9 @@ pub(super) fn answers_in(
     ensures told { IfOk result (λ answers.
         AreTold (map (λ v. v.items) places.now) answers.items bytes.now) }
     ensures room { IfOk result (λ answers. length answers.items ≡ count) }
+    // What was read can be written.
+    ensures form { IfOk result (λ answers.
+        AllByRecursion IsWritableAnswer (map answer_of answers.items)) }
     ensures fault { IfErr result (λ fault.
         AreUnreadAnswers (map (λ v. v.items) places.now) bytes.now fault) }
 {
@@ -41,7 +44,11 @@ pub(super) fn answers_in(
     Ok(answers)
 }
 
-/// The answers to a batch of `count` commands, at the front of the bytes, and what follows them.
+/// How many bytes the shortest answer has: `+\r\n`.
+const SHORTEST: usize = 3;
+
+/// The answers to a batch of `count` commands, at the front of the bytes, and what follows them. Room
+/// is made for no more answers than the bytes can hold.
 pub(super) fn answers_at(
     alloc: Global,
     batch: usize,
@@ -50,9 +57,10 @@ pub(super) fn answers_at(
 ) -> Result<(Vec<Result<Value, RedisError>>, &[u8]), BatchFault>
     ensures count { IfOk result (λ x. length x.0.items ≡ count) }
     ensures found { IfOk result (λ x. StandAsTold bytes.now x.1.now (map answer_of x.0.items)) }
+    ensures form { IfOk result (λ x. AllByRecursion IsWritableAnswer (map answer_of x.0.items)) }
     ensures fault { IfErr result (λ fault. IsUnreadAnswer batch count bytes.now fault) }
 {
-    let mut answers = Vec::with_capacity(alloc, count)?;
+    let mut answers = Vec::with_capacity(alloc, count.min(bytes.len() / SHORTEST))?;
     let mut rest = bytes;
     for number in 0..count {
         let (answer, after) = answer_at(alloc, batch, number, rest)?;

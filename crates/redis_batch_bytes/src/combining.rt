@@ -1,11 +1,14 @@
-ghost use Rattle.std.specs.Prelude.{◌≡◌, ◌⊎◌, List, length, map, IfOk, IfErr};
-ghost use Rattle.std.specs.List.{flat_map, sum_by};
+ghost use Rattle.std.specs.Prelude.{◌≡◌, ◌≢◌, List, length, map, IfOk, IfErr};
+ghost use Rattle.std.specs.List.{AllByRecursion, flat_map, sum_by};
 ghost use Rattle.resp_core.specs.Answer.{Answer, answer_of};
 ghost use Rattle.resp_core.specs.declared.error.ErrorKind.TheVariants.{OutOfMemory};
+ghost use Rattle.redis_routing.specs.Registry.{Registrations};
+ghost use Rattle.redis_batches.specs.Pipeline.{Task};
 ghost use Rattle.redis_batches.specs.PipelinePlan.{PipelineBatches};
 ghost use Rattle.redis_batches.specs.Replies.{AreRepliesFor, part_count};
+ghost use Rattle.redis_batches.specs.Tasks.{AreSplitsOf};
 ghost use Rattle.redis_batch_bytes.specs.Plans.{IsPlanOfRequests};
-ghost use Rattle.redis_batch_bytes.specs.Replies.{AreUnwritten, PipelineIsUncombined, RepliesAreWritten};
+ghost use Rattle.redis_batch_bytes.specs.Replies.{IsWritableAnswer, PipelineIsUncombined, RepliesAreWritten};
 ghost use Rattle.redis_batch_bytes.specs.Told.{answer_form};
 
 use crate::answers::answers_in;
@@ -33,8 +36,8 @@ use std::alloc::Global;
 /// # Errors
 ///
 /// In this order: the errors of `split_pipeline` for the requests. `Reply` for the first reply that
-/// cannot be read or is missing. `AfterReplies` if bytes follow the last one. `NoForm` for the
-/// first reply that has no form. `Memory` if memory runs out.
+/// cannot be read or is missing. `AfterReplies` if bytes follow the last one. `Memory` if memory runs
+/// out.
 pub fn combine_pipeline(
     alloc: Global,
     requests: &[u8],
@@ -50,6 +53,8 @@ pub fn combine_pipeline(
     // Each fault has its cause.
     ensures fault { IfErr result (λ fault.
         PipelineIsUncombined registry.now numbers.now requests.now replies.now fault) }
+    // Each reply can be written.
+    ensures form { IfErr result (λ fault. fault ≢ BatchFault.NoForm) }
 {
     let requests = requests_in(alloc, requests)?;
     let tasks = tasks_of(alloc, &requests, registry)?;
@@ -64,13 +69,14 @@ fn combined(
     splits: &[Option<SplitCommand<'_, Request<'_>>>],
     answers: Vec<Result<Value, RedisError>>,
 ) -> Result<Vec<u8>, BatchFault>
+    requires tasks { (registered : Registrations) × (tasks : List Task)
+        × AreSplitsOf registered splits.now tasks }
     requires long { sum_by part_count splits.now ≡ length answers.items }
+    requires form { AllByRecursion IsWritableAnswer (map answer_of answers.items) }
     ensures combined { IfOk result (λ combined. (replies : List Answer)
         × AreRepliesFor splits.now (map answer_of answers.items) replies
         × (combined.items ≡ flat_map answer_form replies)) }
-    ensures fault { IfErr result (λ fault. (fault ≡ BatchFault.Memory) ⊎ ((replies : List Answer)
-        × AreRepliesFor splits.now (map answer_of answers.items) replies
-        × AreUnwritten replies fault)) }
+    ensures memory { IfErr result (λ fault. fault ≡ BatchFault.Memory) }
 {
     match replies_of(alloc, splits, answers) {
         Ok(replies) => written(alloc, &replies),

@@ -26,9 +26,8 @@ pub enum BatchFault {
     Reply(usize, usize, Fault),
     /// Bytes follow the last reply, which ends at this index.
     AfterReplies(usize),
-    /// The reply to the command of this number has no form. Only `combine_answers` is known to cause
-    /// this, and says when.
-    NoForm(usize),
+    /// The answers of several nodes make no one reply. Only `combine_answers` reports this.
+    NoForm,
 }
 
 impl fmt::Display for BatchFault {
@@ -51,7 +50,7 @@ impl fmt::Display for BatchFault {
                 write!(f, "batch {batch}, reply {number}: {fault}")
             }
             BatchFault::AfterReplies(end) => write!(f, "bytes follow the replies, from {end} on"),
-            BatchFault::NoForm(number) => write!(f, "the reply to command {number} has no form"),
+            BatchFault::NoForm => write!(f, "the answers make no one reply"),
         }
     }
 }

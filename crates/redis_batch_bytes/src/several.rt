@@ -3,7 +3,7 @@ ghost use Rattle.resp_core.specs.Answer.{answer_of};
 ghost use Rattle.resp_core.specs.Reply.{pairs_of};
 ghost use Rattle.resp_core.specs.View.{view, view_pair};
 ghost use Rattle.resp.specs.Forms.{form, line};
-ghost use Rattle.redis_bytes.specs.Replies.{HasNoForm};
+ghost use Rattle.redis_bytes.specs.Replies.{IsWritable};
 ghost use Rattle.redis_commands.specs.Policy.{reply_by_policy};
 ghost use Rattle.redis_batch_bytes.specs.Replies.{StandAsTold};
 ghost use Rattle.redis_batch_bytes.specs.Several.{AreAnswersBy, HasNoReplyForm, IsReplyForm, IsUnreplied, flat_items, has_no_addresses, without_map};
@@ -12,8 +12,9 @@ ghost use Rattle.redis_batch_bytes.specs.Unread.{AnswersAreFollowed, IsUnreadAns
 
 use crate::answers::answers_at;
 use crate::fault::BatchFault;
-use crate::writing::{form_of, push_error};
+use crate::writing::push_error;
 use redis_routing::ResponsePolicy;
+use resp::{WriteError, write};
 use resp_core::{ErrorKind, RedisError, RedisResult, Value};
 use std::alloc::{AllocError, Global};
 
@@ -30,7 +31,7 @@ use std::alloc::{AllocError, Global};
 /// In this order: `NoForm` if the policy is `Special` or there is none, as for `INFO`. `Reply` for
 /// the first reply that cannot be read or is missing. `AfterReplies` if bytes follow the last one.
 /// `NoForm` if the replies do not fit the policy, or the one reply has no form. Numbers of batches
-/// and commands are 0 here. `Memory` if memory runs out.
+/// are 0 here. `Memory` if memory runs out.
 pub fn combine_answers(
     alloc: Global,
     policy: Option<ResponsePolicy>,
@@ -44,7 +45,7 @@ pub fn combine_answers(
     ensures fault { IfErr result (λ fault. IsUnreplied policy count replies.now fault) }
 {
     if !has_no_addresses(policy) {
-        return Err(BatchFault::NoForm(0));
+        return Err(BatchFault::NoForm);
     }
     let answers = all_answers(alloc, count, replies)?;
     reply_form(alloc, policy, answers)
@@ -86,7 +87,7 @@ fn reply_form(
         (reply_by_policy policy [] (map answer_of answers.items))) }
     ensures fault { IfErr result (λ fault. (said : List WireAnswer)
         → map answer_of answers.items ≡ map answer_of_wire said
-        → (fault ≡ BatchFault.Memory) ⊎ ((fault ≡ BatchFault.NoForm 0)
+        → (fault ≡ BatchFault.Memory) ⊎ ((fault ≡ BatchFault.NoForm)
         × HasNoReplyForm (reply_by_policy policy [] (map answer_of answers.items)))) }
 {
     let given = all_given(alloc, answers)?;
@@ -116,12 +117,12 @@ fn error_form(alloc: Global, error: &RedisError) -> Result<Vec<u8>, BatchFault>
         × (error.now.kind ≢ ErrorKind.UnexpectedReturnType)
         × (bytes.items ≡ line 45 (said_of error.now))) }
     ensures fault { IfErr result (λ fault. (fault ≡ BatchFault.Memory)
-        ⊎ ((fault ≡ BatchFault.NoForm 0) × (error.now.kind ≡ ErrorKind.UnexpectedReturnType))) }
+        ⊎ ((fault ≡ BatchFault.NoForm) × (error.now.kind ≡ ErrorKind.UnexpectedReturnType))) }
 {
     let mut bytes = Vec::new(alloc);
     match error.kind() {
         ErrorKind::OutOfMemory => return Err(BatchFault::Memory),
-        ErrorKind::UnexpectedReturnType => return Err(BatchFault::NoForm(0)),
+        ErrorKind::UnexpectedReturnType => return Err(BatchFault::NoForm),
         ErrorKind::Client | ErrorKind::InvalidClientConfig => push_error(&mut bytes, error)?,
     }
     Ok(bytes)
@@ -131,11 +132,24 @@ fn error_form(alloc: Global, error: &RedisError) -> Result<Vec<u8>, BatchFault>
 fn value_form(alloc: Global, value: &Value) -> Result<Vec<u8>, BatchFault>
     ensures bytes { IfOk result (λ bytes. bytes.items ≡ form (without_map (view value.now))) }
     ensures fault { IfErr result (λ fault. (fault ≡ BatchFault.Memory)
-        ⊎ ((fault ≡ BatchFault.NoForm 0) × HasNoForm (without_map (view value.now)))) }
+        ⊎ ((fault ≡ BatchFault.NoForm) × (IsWritable (without_map (view value.now)) → ⊥))) }
 {
     match value {
-        Value::Map(entries) => form_of(alloc, 0, &Value::Array(flat_items(alloc, entries)?)),
-        other => form_of(alloc, 0, other),
+        Value::Map(entries) => form_of(alloc, &Value::Array(flat_items(alloc, entries)?)),
+        other => form_of(alloc, other),
+    }
+}
+
+/// The bytes of a value.
+fn form_of(alloc: Global, value: &Value) -> Result<Vec<u8>, BatchFault>
+    ensures bytes { IfOk result (λ bytes. bytes.items ≡ form (view value.now)) }
+    ensures fault { IfErr result (λ fault. (fault ≡ BatchFault.Memory)
+        ⊎ ((fault ≡ BatchFault.NoForm) × (IsWritable (view value.now) → ⊥))) }
+{
+    match write(alloc, value) {
+        Ok(bytes) => Ok(bytes),
+        Err(WriteError::Memory) => Err(BatchFault::Memory),
+        Err(WriteError::NoForm) => Err(BatchFault::NoForm),
     }
 }
 

@@ -1,10 +1,10 @@
-ghost use Rattle.std.specs.Prelude.{◌≡◌, ◌++◌, ◌⊎◌, map, OnOk, IfOk, IfErr};
-ghost use Rattle.std.specs.List.{flat_map};
+ghost use Rattle.std.specs.Prelude.{◌≡◌, ◌++◌, map, OnOk, IfOk, IfErr};
+ghost use Rattle.std.specs.List.{AllByRecursion, flat_map};
 ghost use Rattle.resp_core.specs.Answer.{answer_of};
 ghost use Rattle.resp.specs.Forms.{form, line};
 ghost use Rattle.resp_core.specs.View.{view};
-ghost use Rattle.redis_bytes.specs.Replies.{HasNoForm};
-ghost use Rattle.redis_batch_bytes.specs.Replies.{AreUnwritten};
+ghost use Rattle.redis_bytes.specs.Replies.{IsWritable};
+ghost use Rattle.redis_batch_bytes.specs.Replies.{IsWritableAnswer};
 ghost use Rattle.redis_batch_bytes.specs.Told.{answer_form, said_of};
 
 use crate::errors::said_of;
@@ -18,47 +18,33 @@ pub(super) fn written(
     alloc: Global,
     replies: &[Result<Value, RedisError>],
 ) -> Result<Vec<u8>, BatchFault>
+    requires form { AllByRecursion IsWritableAnswer (map answer_of replies.now) }
     ensures bytes { IfOk result (λ bytes.
         bytes.items ≡ flat_map answer_form (map answer_of replies.now)) }
-    ensures fault { IfErr result (λ fault. AreUnwritten (map answer_of replies.now) fault) }
+    ensures memory { IfErr result (λ fault. fault ≡ BatchFault.Memory) }
 {
     let mut bytes = Vec::new(alloc);
-    for (number, reply) in replies.iter().enumerate() {
+    for reply in replies {
         match reply {
-            Ok(value) => push_value(alloc, &mut bytes, number, value)?,
+            Ok(value) => push_value(alloc, &mut bytes, value)?,
             Err(error) => push_error(&mut bytes, error)?,
         }
     }
     Ok(bytes)
 }
 
-/// Adds the bytes of a value, the reply to the command of this number.
-fn push_value(
-    alloc: Global,
-    bytes: &mut Vec<u8>,
-    number: usize,
-    value: &Value,
-) -> Result<(), BatchFault>
+/// Adds the bytes of a value.
+fn push_value(alloc: Global, bytes: &mut Vec<u8>, value: &Value) -> Result<(), BatchFault>
+    requires form { IsWritable (view value.now) }
     ensures bytes { OnOk result (bytes.new.items ≡ bytes.old.items ++ form (view value.now)) }
-    ensures fault { IfErr result (λ fault. (fault ≡ BatchFault.Memory)
-        ⊎ ((fault ≡ BatchFault.NoForm number) × HasNoForm (view value.now))) }
-{
-    let one = form_of(alloc, number, value)?;
-    bytes.extend_from_slice(&one)?;
-    Ok(())
-}
-
-/// The bytes of a value, the reply to the command of this number.
-pub(super) fn form_of(alloc: Global, number: usize, value: &Value) -> Result<Vec<u8>, BatchFault>
-    ensures bytes { IfOk result (λ bytes. bytes.items ≡ form (view value.now)) }
-    ensures fault { IfErr result (λ fault. (fault ≡ BatchFault.Memory)
-        ⊎ ((fault ≡ BatchFault.NoForm number) × HasNoForm (view value.now))) }
+    ensures memory { IfErr result (λ fault. fault ≡ BatchFault.Memory) }
 {
     match write(alloc, value) {
-        Ok(bytes) => Ok(bytes),
-        Err(WriteError::Memory) => Err(BatchFault::Memory),
-        Err(WriteError::NoForm) => Err(BatchFault::NoForm(number)),
+        Ok(one) => bytes.extend_from_slice(&one)?,
+        Err(WriteError::Memory) => return Err(BatchFault::Memory),
+        Err(WriteError::NoForm) => unreachable!(),
     }
+    Ok(())
 }
 
 /// Adds the line of an error.

@@ -48,10 +48,10 @@ pub trait BatchNodes {
 
     /// Whether these may be the batches that were sent so far, in their order, those among them that
     /// were not taken, too. One before which memory ran out may be left out.
-    ghost asked: { Self → List Batch → Type 0 } = { λ _ _. Unit {0} };
+    ghost asked: { Self → List Batch → Type 0 };
 
     /// Whether these may be the answers so far, batch after batch, in the order in which they came.
-    ghost gave: { Self → List (List Answer) → Type 0 } = { λ _ _. Unit {0} };
+    ghost gave: { Self → List (List Answer) → Type 0 };
 
     /// What one send may do: the nodes before, the address, the batch, what came back, and the nodes
     /// after. No nodes have to say it.
@@ -103,11 +103,17 @@ pub trait BatchNodes {
             [] (batch_for node.now (map (λ cmd. cmd.now) batch.now)) error) }
         // There are batches that may be those that were sent so far.
         ensures asked_so_far { (sent : List Batch) × asked self.old sent }
+        // No other batches may be.
+        ensures asked_one { (these others : List Batch) → asked self.old these → asked self.old others
+            → these ≡ others }
         // Where nothing was sent, it may be that no answer came. Since a batch that was refused leaves
         // no entry, an empty trace alone does not tell that.
         ensures gave_at_first { (state self.old).trace ≡ [] → asked self.old [] → gave self.old [] }
         // There are answers that may be those so far.
         ensures gave_so_far { (given : List (List Answer)) × gave self.old given }
+        // No other answers may be.
+        ensures gave_one { (these others : List (List Answer)) → gave self.old these
+            → gave self.old others → these ≡ others }
         ensures gave { IfOk result (λ answers. (before : List (List Answer)) → gave self.old before
             → gave self.new (before ++ map answer_of answers.items ∷ [])) }
         ensures gave_none { OnErr result ((before : List (List Answer)) → gave self.old before

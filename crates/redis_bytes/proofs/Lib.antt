@@ -13,3 +13,5 @@ pub mod Arrays
 pub mod Combined
 pub mod Unsplit
 pub mod PartNumbers
+pub mod Formed
+pub mod JoinedForm

@@ -31,6 +31,13 @@ parted (Some x ∷ first) second all e =
 abbrev pub Adds : List ℕ → Arguments → List ℕ → Type 0
 Adds old arguments new = (args : Words) → all_some arguments ≡ Some args → new ≡ old ++ flat_map bulk_form args
 
+-- what was there stays in front
+abbrev pub Keeps : List ℕ → List ℕ → Type 0
+Keeps old new = (more : List ℕ) × (new ≡ old ++ more)
+
+pub keeps_again : (old new more : List ℕ) → Keeps old new → Keeps new more → Keeps old more
+keeps_again old new more first next = (first.0 ++ next.0, next.1 ∙ ap (λ (t : List ℕ). t ++ next.0) first.1 ∙ append_assoc old first.0 next.0)
+
 -- one argument more, if it is there
 pub adds_next : (old : List ℕ) (arguments : Arguments) (arg : Option (List ℕ)) (new more : List ℕ) → Adds old arguments new → IfSome arg (λ text. more ≡ new ++ bulk_form text) → Adds old (arguments ++ arg ∷ []) more
 adds_next old arguments None new more so_far next args e = let p = parted arguments (None ∷ []) args e in absurd (none-some p.1 p.3)

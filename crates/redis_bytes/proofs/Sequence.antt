@@ -1,12 +1,14 @@
 -- Replies one after the other.
-use Rattle.std.proofs.Common.{◌≡◌, ℕ, ◌+◌, ◌-◌, ◌<◌, List, [], ◌∷◌, ◌++◌, length, append_assoc, append-nil, refl, sym, ap, subst, ◌∙◌, arith}
+use Rattle.std.proofs.Common.{◌≡◌, ℕ, ◌-◌, ◌<◌, ◌^◌, List, [], ◌∷◌, ◌++◌, length, append_assoc, append-nil, refl, sym, ap, subst, ◌∙◌, arith}
 use Rattle.std.proofs.lemmas.Grind.{common_steps}
 use Rattle.std.proofs.lemmas.List.{length-append}
 use Rattle.resp_core.specs.Reply.{Reply}
 use Rattle.resp.specs.Forms.{InOrder}
 use Rattle.redis_bytes.specs.declared.fault.BytesFault.{BytesFault}
 use Rattle.redis_bytes.specs.declared.fault.BytesFault.TheVariants as faults
-use Rattle.redis_bytes.specs.Replies.{IsReply, AreReplies, IsNoValue, IsFirstUnread, AreFollowed, AreUnread}
+use Rattle.std.specs.List.{AllByRecursion}
+use Rattle.redis_bytes.specs.Replies.{IsReply, AreReplies, IsNoValue, IsFirstUnread, IsWritable, AreFollowed, AreUnread}
+use Rattle.redis_bytes.proofs.Formed.{replies_formed}
 
 abbrev none : List Reply
 none = []
@@ -90,9 +92,14 @@ unread count number bytes rest replies (faults.Reply n f) so_far long few next =
 unread count number bytes rest replies (faults.Error n text) so_far long few next = first_unread count number bytes rest replies (faults.Error n text) so_far long few next
 unread count number bytes rest replies (faults.AfterReplies n) so_far long few next = absurd next
 unread count number bytes rest replies (faults.Unfit kind) so_far long few next = absurd next
-unread count number bytes rest replies faults.NoForm so_far long few next = absurd next
 unread count number bytes rest replies faults.LineFeedInHost so_far long few next = absurd next
 unread count number bytes rest replies (faults.BadName _) so_far long few next = absurd next
 
 pub followed : (count : ℕ) (bytes rest : List ℕ) (replies : List Reply) → Stand bytes rest replies → length replies ≡ count → 0 < length rest → AreFollowed count bytes (length bytes - length rest)
 followed count bytes rest replies so_far every some = grind (arith, common_steps)
+
+-- what stands at the front can be written
+pub stand_writable : (bytes rest : List ℕ) (replies : List Reply) → length bytes < 2 ^ 63 → Stand bytes rest replies → AllByRecursion IsWritable replies
+stand_writable bytes rest replies few stand =
+    let long = ap (length {A = ℕ}) stand.bytes_are ∙ length-append stand.front rest in
+    replies_formed replies stand.front (omega (arith, few, long)) stand.are

@@ -10,7 +10,7 @@ use Rattle.redis_routing.specs.Split.{Split}
 use Rattle.redis_cluster.specs.Plan.{IsMadeOfParts}
 use Rattle.redis_bytes.specs.declared.fault.BytesFault.{BytesFault}
 use Rattle.redis_bytes.specs.declared.fault.BytesFault.TheVariants as faults
-use Rattle.redis_bytes.specs.declared.fault.BytesFault.TheVariants.{Memory, Error, AfterReplies, Unfit, NoForm}
+use Rattle.redis_bytes.specs.declared.fault.BytesFault.TheVariants.{Memory, Error, AfterReplies, Unfit}
 use Rattle.redis_bytes.specs.Requests.{IsSplitRequest, IsUnsplit}
 
 -- the bytes are a form of the reply, or of the error
@@ -19,6 +19,10 @@ IsAnswer answer bytes = IsForm MAX_LEVELS answer bytes
 
 abbrev pub IsReply : Reply → List ℕ → Type 0
 IsReply reply bytes = IsAnswer (Ok reply) bytes
+
+-- the reply has a form, and is not too deep to be written
+abbrev pub IsWritable : Reply → Type 0
+IsWritable reply = HasForm reply × (depth reply ≤ MAX_LEVELS)
 
 -- the bytes are forms of the replies, in their order
 abbrev pub AreReplies : List Reply → List ℕ → Type 0
@@ -79,16 +83,10 @@ pub record AreCombined (split : Split) (bytes combined : List ℕ) : Type 0 wher
   pub made : IsMadeOfParts split replies (Ok one)
   pub written : combined ≡ form one
 
--- the reply has no form, or is too deep
-abbrev pub HasNoForm : Reply → Type 0
-HasNoForm reply = HasForm reply → depth reply ≤ MAX_LEVELS → ⊥
-
--- why the replies to the parts make no one reply in bytes
+-- why the replies to the parts make no one reply
 abbrev pub IsUnjoined : Split → List ℕ → BytesFault → Type 0
 IsUnjoined split bytes (Unfit kind) = (replies : List Reply) × PartsAreAnswered split bytes replies
     × IsMadeOfParts split replies (Err kind)
-IsUnjoined split bytes NoForm = (replies : List Reply) × PartsAreAnswered split bytes replies
-    × (one : Reply) × IsMadeOfParts split replies (Ok one) × HasNoForm one
 IsUnjoined split bytes fault = AreUnread (length split.routes) bytes fault
 
 -- why replies to a request are not combined: the request is not split, or they are not joined

@@ -2,7 +2,7 @@
 use Rattle.std.specs.Prelude.{ℕ, List, ◌++◌, codes, decimal}
 use Rattle.resp.specs.Texts as resp
 use Rattle.redis_bytes.specs.declared.fault.BytesFault.{BytesFault}
-use Rattle.redis_bytes.specs.declared.fault.BytesFault.TheVariants.{Memory, Request, AfterRequest, NotMultiKey, Reply, Error, AfterReplies, Unfit, NoForm, LineFeedInHost, BadName}
+use Rattle.redis_bytes.specs.declared.fault.BytesFault.TheVariants.{Memory, Request, AfterRequest, NotMultiKey, Reply, Error, AfterReplies, Unfit, LineFeedInHost, BadName}
 
 abbrev pub bytes_fault_text : BytesFault → List ℕ
 bytes_fault_text Memory = codes "out of memory"
@@ -16,7 +16,6 @@ bytes_fault_text (Error number text) = codes "reply " ++ (decimal number ++ code
 bytes_fault_text (AfterReplies end) =
     codes "bytes follow the replies, from " ++ (decimal end ++ codes " on")
 bytes_fault_text (Unfit kind) = codes "the replies make no one reply"
-bytes_fault_text NoForm = codes "the one reply has no form"
 bytes_fault_text LineFeedInHost = codes "a host has a line feed"
 bytes_fault_text (BadName number) =
     codes "line " ++ (decimal number ++ codes " registers no name")

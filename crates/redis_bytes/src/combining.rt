@@ -8,7 +8,7 @@ ghost use Rattle.redis_cluster.specs.MultiKey.{ReplyForm};
 ghost use Rattle.redis_cluster.specs.Unsplit.{TupleResult, reply_by};
 ghost use Rattle.redis_cluster.specs.Plan.{ArePartsAnswered};
 ghost use Rattle.redis_bytes.specs.Requests.{IsSplitRequest};
-ghost use Rattle.redis_bytes.specs.Replies.{AreReplies, AreCombined, HasNoForm, IsUnjoined, IsUncombined};
+ghost use Rattle.redis_bytes.specs.Replies.{AreReplies, AreCombined, IsUnjoined, IsUncombined, IsWritable};
 
 use crate::fault::BytesFault;
 use crate::merging::merged;
@@ -31,8 +31,7 @@ use std::alloc::{AllocError, Global};
 ///
 /// In this order: the errors of `split` for the request. `Reply` or `Error` for the first reply
 /// that cannot be read or is an error. `AfterReplies` if bytes follow the last one. `Unfit` if the
-/// replies do not fit the command. `NoForm` if the one reply has no form. `Memory` if memory runs
-/// out.
+/// replies do not fit the command. `Memory` if memory runs out.
 pub fn combine(
     alloc: Global,
     request: &[u8],
@@ -48,8 +47,7 @@ pub fn combine(
         (parts : List Reply) → IsSplitRequest (names_in names.entry) request.now split
         → ArePartsAnswered split reply_form results parts → AreReplies parts replies.now
         → MatchResult result (λ combined. combined.items ≡ form (reply_by reply_form results))
-        (λ fault. (fault ≡ BytesFault.Memory)
-        ⊎ ((fault ≡ BytesFault.NoForm) × HasNoForm (reply_by reply_form results))) }
+        (λ fault. fault ≡ BytesFault.Memory) }
     // Each fault has its cause.
     ensures fault { IfErr result
         (λ fault. IsUncombined (names_in names.entry) request.now replies.now fault) }
@@ -71,8 +69,7 @@ fn joined<R: Routable>(
     ensures unsplit { (reply_form : ReplyForm) (results : List TupleResult) (parts : List Reply)
         → ArePartsAnswered split.now reply_form results parts → AreReplies parts replies.now
         → MatchResult result (λ combined. combined.items ≡ form (reply_by reply_form results))
-        (λ fault. (fault ≡ BytesFault.Memory)
-        ⊎ ((fault ≡ BytesFault.NoForm) × HasNoForm (reply_by reply_form results))) }
+        (λ fault. fault ≡ BytesFault.Memory) }
     ensures fault { IfErr result (λ fault. IsUnjoined split.now replies.now fault) }
 {
     match moved(alloc, split, replies)? {
@@ -91,11 +88,10 @@ fn by_values<R: Routable>(
     ensures unsplit { (reply_form : ReplyForm) (results : List TupleResult) (parts : List Reply)
         → ArePartsAnswered split.now reply_form results parts → AreReplies parts replies.now
         → MatchResult result (λ combined. combined.items ≡ form (reply_by reply_form results))
-        (λ fault. (fault ≡ BytesFault.Memory)
-        ⊎ ((fault ≡ BytesFault.NoForm) × HasNoForm (reply_by reply_form results))) }
+        (λ fault. fault ≡ BytesFault.Memory) }
     ensures fault { IfErr result (λ fault. IsUnjoined split.now replies.now fault) }
 {
-    let values = replies_in(alloc, split.len(), replies)?;
+    let values = replies_in(alloc, split.routes().len(), replies)?;
     match join_replies(alloc, split, values) {
         Ok(one) => written(alloc, &one),
         Err(error) => Err(unfit(&error)),
@@ -123,14 +119,14 @@ fn moved<R: Routable>(
 
 /// The bytes of the one reply.
 fn written(alloc: Global, one: &Value) -> Result<Vec<u8>, BytesFault>
+    requires form { IsWritable (view one.now) }
     ensures bytes { IfOk result (λ bytes. bytes.items ≡ form (view one.now)) }
-    ensures fault { IfErr result (λ fault. (fault ≡ BytesFault.Memory)
-        ⊎ ((fault ≡ BytesFault.NoForm) × HasNoForm (view one.now))) }
+    ensures memory { IfErr result (λ fault. fault ≡ BytesFault.Memory) }
 {
     match write(alloc, one) {
         Ok(bytes) => Ok(bytes),
         Err(WriteError::Memory) => Err(BytesFault::Memory),
-        Err(WriteError::NoForm) => Err(BytesFault::NoForm),
+        Err(WriteError::NoForm) => unreachable!(),
     }
 }
 

@@ -27,8 +27,6 @@ pub enum BytesFault {
     AfterReplies(usize),
     /// The replies do not fit the command, so they make no one reply.
     Unfit(ErrorKind),
-    /// The one reply has no form: `resp::write` says when. No input is known that causes this.
-    NoForm,
     /// A host has a line feed, so a line of a table cannot hold it.
     LineFeedInHost,
     /// The line of this number registers no name.
@@ -48,7 +46,6 @@ impl fmt::Display for BytesFault {
             BytesFault::Error(number, _) => write!(f, "reply {number} is an error"),
             BytesFault::AfterReplies(end) => write!(f, "bytes follow the replies, from {end} on"),
             BytesFault::Unfit(_) => write!(f, "the replies make no one reply"),
-            BytesFault::NoForm => write!(f, "the one reply has no form"),
             BytesFault::LineFeedInHost => write!(f, "a host has a line feed"),
             BytesFault::BadName(number) => write!(f, "line {number} registers no name"),
         }

@@ -1,7 +1,8 @@
 ghost use Rattle.std.specs.Prelude.{◌≡◌, ◌++◌, ℕ, List, map, length, IfOk, IfErr, MatchResult};
 ghost use Rattle.resp_core.specs.Reply.{Reply};
 ghost use Rattle.resp_core.specs.View.{view};
-ghost use Rattle.redis_bytes.specs.Replies.{IsReply, AreReplies, IsNoValue, AreUnread};
+ghost use Rattle.std.specs.List.{AllByRecursion};
+ghost use Rattle.redis_bytes.specs.Replies.{IsReply, AreReplies, IsNoValue, IsWritable, AreUnread};
 
 use crate::fault::BytesFault;
 use resp::{ReadError, Response, read};
@@ -37,6 +38,8 @@ pub(super) fn replies_in(
 ) -> Result<Vec<Value>, BytesFault>
     ensures count { IfOk result (λ values. length values.items ≡ count) }
     ensures found { IfOk result (λ values. AreReplies (map view values.items) bytes.now) }
+    // What was read can be written.
+    ensures form { IfOk result (λ values. AllByRecursion IsWritable (map view values.items)) }
     ensures only { (replies : List Reply) → length replies ≡ count → AreReplies replies bytes.now
         → MatchResult result (λ values. map view values.items ≡ replies)
         (λ fault. fault ≡ BytesFault.Memory) }

@@ -1,4 +1,4 @@
-ghost use Rattle.std.specs.Prelude.{◌≡◌, ◌+◌, ◌<◌, ◌≤◌, ◌++◌, [], Some, length, map, option_copied, IfOk, IfErr, IfSome, OnOk, MatchResult};
+ghost use Rattle.std.specs.Prelude.{ℕ, List, ◌≡◌, ◌+◌, ◌<◌, ◌≤◌, ◌++◌, [], Some, length, map, option_copied, IfOk, IfErr, IfSome, OnOk, MatchResult};
 ghost use Rattle.std.specs.List.{flat_map, range_with_len};
 ghost use Rattle.resp.specs.Forms.{bulk_form, request};
 ghost use Rattle.cluster_slots.specs.Lists.{all_some};
@@ -108,7 +108,7 @@ fn push_parts(
 ///
 /// # Errors
 ///
-/// If memory runs out. Then the buffer is of no use.
+/// If memory runs out. Then the buffer may end with a beginning of the request.
 pub fn push_part(
     out: &mut Vec<u8>,
     split: &SplitCommand<'_, Request<'_>>,
@@ -117,8 +117,11 @@ pub fn push_part(
 ) -> Result<(), AllocError>
     requires command { split.now.arguments ≡ map Some command.now }
     requires within { number < length split.now.routes }
-    ensures { OnOk result ((part : Words) × (Some (map Some part) ≡ route_part split.now number)
+    ensures part { OnOk result ((part : Words)
+        × (Some (map Some part) ≡ route_part split.now number)
         × (out.new.items ≡ out.old.items ++ request part)) }
+    // What was there stays, also after an error.
+    ensures before { (more : List ℕ) × (out.new.items ≡ out.old.items ++ more) }
 {
     push_args(out, command, name_words(command), &split.routes()[number].1)
 }
@@ -131,9 +134,10 @@ fn push_args(
     indices: &[usize],
 ) -> Result<(), AllocError>
     requires few { words ≤ 2 }
-    ensures { OnOk result ((part : Words)
+    ensures part { OnOk result ((part : Words)
         → sub_command_after words (map Some command.now) indices.now ≡ Some part
         → out.new.items ≡ out.old.items ++ request part) }
+    ensures before { (more : List ℕ) × (out.new.items ≡ out.old.items ++ more) }
 {
     push_array_line(out, words + indices.len())?;
     push_name(out, command, words)?;
@@ -152,9 +156,10 @@ fn arg_after<'a>(command: &'a Request<'_>, words: usize, index: usize) -> Option
 
 /// Appends the words of a command's name.
 fn push_name(out: &mut Vec<u8>, command: &Request<'_>, words: usize) -> Result<(), AllocError>
-    ensures { OnOk result ((name : Words)
+    ensures name { OnOk result ((name : Words)
         → all_some (map (argument (map Some command.now)) (range_with_len 0 words)) ≡ Some name
         → out.new.items ≡ out.old.items ++ flat_map bulk_form name) }
+    ensures before { (more : List ℕ) × (out.new.items ≡ out.old.items ++ more) }
 {
     for place in 0..words {
         push_arg(out, Routable::arg_idx(command, place))?;
@@ -164,8 +169,9 @@ fn push_name(out: &mut Vec<u8>, command: &Request<'_>, words: usize) -> Result<(
 
 /// Appends an argument as a bulk string, if it is there.
 fn push_arg(out: &mut Vec<u8>, arg: Option<&[u8]>) -> Result<(), AllocError>
-    ensures { OnOk result (IfSome (option_copied arg.entry)
+    ensures text { OnOk result (IfSome (option_copied arg.entry)
         (λ text. out.new.items ≡ out.old.items ++ bulk_form text)) }
+    ensures before { (more : List ℕ) × (out.new.items ≡ out.old.items ++ more) }
 {
     if let Some(text) = arg {
         push_bulk(out, text)?;

@@ -42,3 +42,4 @@ pub mod Wider
 pub mod TriedOnce
 pub mod EachTry
 pub mod Unhindered
+pub mod Threads

@@ -22,6 +22,7 @@ ghost use Rattle.redis_cluster.specs.Sends.{targets, IsPlanOf};
 ghost use Rattle.redis_cluster.specs.Tries.{tries_with, SentInTurn};
 
 pub use crate::fault::{DriveError, DriveFault, PlanFault};
+pub use crate::log::Log;
 pub use crate::nodes::{Nodes, SendError};
 pub use crate::order::names_once;
 pub use crate::plan::{SplitPlan, join_replies};

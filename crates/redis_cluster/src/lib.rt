@@ -6,6 +6,7 @@ mod attempts;
 /// Multi-key commands, split by slot, sent in any order, and answered as by one server.
 pub mod driver;
 mod fault;
+mod log;
 mod nodes;
 mod order;
 /// Pipelines of commands, and which of them a cluster refuses.

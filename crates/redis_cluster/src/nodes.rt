@@ -84,7 +84,7 @@ pub trait Nodes {
     ghost kept: { Self → Type 0 } = { λ _. Unit {0} };
 
     /// Whether these may be the replies so far, in the order in which they came.
-    ghost gave: { Self → List Reply → Type 0 } = { λ _ _. Unit {0} };
+    ghost gave: { Self → List Reply → Type 0 };
 
     /// What one send may do: the nodes before, the address, the command, the outcome, and the nodes
     /// after. No nodes have to say it.
@@ -123,6 +123,11 @@ pub trait Nodes {
             → IsIdleIfRefused (state self.old).keyspace (state self.new).keyspace error → kept self.new) }
         // If nothing was sent, it may be that no reply came.
         ensures gave_at_first { (state self.old).trace ≡ [] → gave self.old [] }
+        // There are replies that may be those so far.
+        ensures gave_so_far { (replies : List Reply) × gave self.old replies }
+        // No other list may be.
+        ensures gave_one { (these others : List Reply) → gave self.old these → gave self.old others
+            → these ≡ others }
         ensures gave { IfOk result (λ value. (replies : List Reply) → gave self.old replies
             → gave self.new (replies ++ view value ∷ [])) }
         ensures gave_none { OnErr result ((replies : List Reply) → gave self.old replies

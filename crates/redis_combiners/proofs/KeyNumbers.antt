@@ -1,5 +1,5 @@
 -- Pairs of keys and numbers, added one by one.
-use Rattle.std.proofs.Common.{option_map, ◌≡◌, ◌≤◌, ◌+◌, ◌/◌, ℕ, ℤ, List, [], ◌∷◌, ◌++◌, length, Some, map, arith}
+use Rattle.std.proofs.Common.{option_map, ◌≡◌, ◌+◌, ◌/◌, ℕ, ℤ, List, [], ◌∷◌, ◌++◌, length, Some, map, arith}
 use Rattle.std.specs.Prelude.{IfSome, option_and_then}
 use Rattle.std.proofs.lemmas.Grind.{common_steps}
 use Rattle.resp_core.specs.Reply.{Reply, int_of, bulk_string_of, array_of}
@@ -22,5 +22,5 @@ twice [] ps e = grind (arith, common_steps)
 twice (key ∷ []) ps e = absurd (cc)
 twice (key ∷ number ∷ items) ps e = grind (arith, common_steps, twice items)
 
-pub half : (items : List Reply) (n : ℕ) → n ≡ length items → IfSome (pairs_among items) (λ ps. length ps ≤ n / 2)
-half items n e = grind (arith, common_steps, twice)
+pub half : (items : List Reply) → IfSome (pairs_among items) (λ ps. length ps ≡ length items / 2)
+half items = grind (arith, common_steps, twice)

@@ -1,11 +1,12 @@
 -- The order of the replies does not count for their totals.
-use Rattle.std.proofs.Common.{◌≡◌, ◌<◌, ◌≤◌, ◌/◌, ◌^◌, length, ℕ, ◌+◌, List, [], ◌∷◌, sym, ap, ◌∙◌, refl, arith, map, ℤ, pos, ◌+ℤ◌, Option, Some, None, Bool, true, false, cond}
+use Rattle.std.proofs.Common.{◌≡◌, ◌<◌, ◌/◌, ◌^◌, length, ℕ, ◌+◌, List, [], ◌∷◌, sym, ap, subst, ◌∙◌, refl, arith, map, ℤ, pos, ◌+ℤ◌, Option, Some, None, Bool, true, false, cond}
 use Rattle.std.proofs.lemmas.Grind.{common_steps}
 use lib.IntN.{negsuc}
-use Rattle.std.specs.Prelude.{IfSome, option_map, option_and_then, is_none, is_some, unwrap_or, ◌||◌, sum_by, flat_map}
+use Rattle.std.specs.Prelude.{IfSome, option_map, option_and_then, is_none, is_some, nat_lt, unwrap_or, ◌||◌, sum_by, flat_map}
 use Rattle.std.specs.List.{list_any}
 use Rattle.std.specs.List.Sorted.{IsPermutation}
 use Rattle.std.specs.Str.{bytes_eq}
+use Rattle.std.proofs.lemmas.Bool.{lt-ltb}
 use Rattle.std.proofs.lemmas.Int.{ints}
 use Rattle.std.proofs.lemmas.List.Sorted.{sum_by-IsPermutation, list_any-IsPermutation}
 use Rattle.std.proofs.lemmas.List.Sums.{sum_by-cons, sum_by-append}
@@ -84,18 +85,51 @@ total_same q rs others h =
 pub sum_permuted : (q : List ℕ) (ps qs : List KeyNumber) → IsPermutation ps qs → sum_at q qs ≡ sum_at q ps
 sum_permuted q ps qs h = grind (arith, common_steps, same_option, sum_has q qs, sum_has q ps, list_any-IsPermutation, from_parts (or_zero (sum_at q qs)) (or_zero (sum_at q ps)) (sum_by (downs q) qs) (sum_by (ups q) qs) (sum_by (downs q) ps) (sum_by (ups q) ps) (total_parts q qs) (total_parts q ps), total_parts q qs, total_parts q ps, sum_by-IsPermutation (downs q) ps qs h, sum_by-IsPermutation (ups q) ps qs h)
 
-abbrev pub pair_count : Reply → ℕ
+abbrev pair_count : Reply → ℕ
 pair_count r = length (pairs_of_reply r)
 
--- a reply that is an array has half as many pairs as items, if any
-pub count_half : (r : Reply) (items : List Reply) (n : ℕ) → Some items ≡ array_of r → n ≡ length items → pair_count r ≤ n / 2
-count_half r items n is e = let h = half items n e in rw (← is) (of_pairs (pairs_among items) h)
-  where
-    of_pairs : (o : Option (List KeyNumber)) → IfSome o (λ ps. length ps ≤ n / 2) → length (unwrap_or o []) ≤ n / 2
-    of_pairs o h = grind (arith, common_steps)
+-- half as many as the items of a reply
+abbrev pub item_pairs : Reply → ℕ
+item_pairs r = length (unwrap_or (array_of r) []) / 2
 
-pub count_all : (rs : List Reply) (n : ℕ) → (n < 2 ^ 63 → sum_by pair_count rs ≤ n) → IfSome (all_pairs rs) (λ ps. n < 2 ^ 63 → length ps ≤ n)
-count_all rs n h = grind (arith, common_steps, all_are, length-flat_map)
+-- a reply of keys and numbers in turn has so many pairs
+each_half : (r : Reply) → has_no_pairs r ≡ false → pair_count r ≡ item_pairs r
+each_half r are = of_items (array_of r) are
+  where
+    of_pairs : (o : Option (List KeyNumber)) (n : ℕ) → IfSome o (λ ps. length ps ≡ n) → is_none o ≡ false → length (unwrap_or o []) ≡ n
+    of_pairs o n h some = grind (arith, common_steps)
+
+    of_items : (o : Option (List Reply)) → is_none (option_and_then pairs_among o) ≡ false → length (unwrap_or (option_and_then pairs_among o) []) ≡ length (unwrap_or o []) / 2
+    of_items None are = absurd (cc)
+    of_items (Some items) are = of_pairs (pairs_among items) (length items / 2) (half items) are
+
+all_half : (rs : List Reply) → list_any has_no_pairs rs ≡ false → sum_by pair_count rs ≡ sum_by item_pairs rs
+all_half [] are = refl
+all_half (r ∷ rs) are = grind (arith, common_steps, sum_by-cons, each_half, all_half rs)
+
+-- so have all replies
+pub count_all : (rs : List Reply) → IfSome (all_pairs rs) (λ ps. length ps ≡ sum_by item_pairs rs)
+count_all rs = subst (λ o. IfSome o (λ ps. length ps ≡ sum_by item_pairs rs)) (sym (all_are rs)) (of_test (list_any has_no_pairs rs) refl)
+  where
+    of_test : (b : Bool) → list_any has_no_pairs rs ≡ b → IfSome (cond b None (Some (flat_map pairs_of_reply rs))) (λ ps. length ps ≡ sum_by item_pairs rs)
+    of_test true are = tt
+    of_test false are = length-flat_map pairs_of_reply rs ∙ all_half rs are
+
+-- a count of the pairs, unless these are too many
+abbrev Counts : Option ℕ → List KeyNumber → Type 0
+Counts count ps = count ≡ cond (nat_lt (length ps) (2 ^ 63)) (Some (length ps)) None
+
+-- with a count they are few
+pub few_counted : (all : Option (List KeyNumber)) (n : ℕ) → IfSome all (Counts (Some n)) → IfSome all (λ ps. length ps < 2 ^ 63)
+few_counted all n h = grind (arith, common_steps, lt-ltb)
+
+-- and with none they make no map
+pub uncounted : (rs : List Reply) → IfSome (all_pairs rs) (Counts None) → combined_map rs ≡ None
+uncounted rs h = of_pairs (all_pairs rs) h
+  where
+    of_pairs : (all : Option (List KeyNumber)) → IfSome all (Counts None) → option_and_then map_of_totals all ≡ None
+    of_pairs None h = refl
+    of_pairs (Some ps) h = grind (arith, common_steps)
 
 length_same : (rs others : List Reply) → IsPermutation rs others → length (flat_map pairs_of_reply others) ≡ length (flat_map pairs_of_reply rs)
 length_same rs others h = length-flat_map pairs_of_reply others ∙ sum_by-IsPermutation (λ r. length (pairs_of_reply r)) rs others h ∙ sym (length-flat_map pairs_of_reply rs)

@@ -1,4 +1,4 @@
-ghost use Rattle.std.specs.Prelude.{◌≡◌, ◌<◌, ◌≤◌, ◌^◌, ◌++◌, ◌∷◌, [], ◌+ℤ◌, ◌⊎◌, ℕ, List, length, map, MatchResult, IfOk, OnOk, IfSome, option_map, Some, None, if◌then◌else◌, IsPermutation};
+ghost use Rattle.std.specs.Prelude.{◌≡◌, ◌≤◌, ◌^◌, ◌++◌, ◌∷◌, [], ◌+ℤ◌, ◌⊎◌, ℕ, List, length, map, MatchResult, IfOk, IfErr, OnOk, IfSome, option_map, Some, None, nat_lt, if◌then◌else◌, IsPermutation};
 ghost use Rattle.std.specs.Str.{bytes_eq};
 ghost use Rattle.std.specs.Ordering.{nat_cmp};
 ghost use Rattle.std.specs.Cmp.Lexicographic.{slice_cmp};
@@ -16,6 +16,9 @@ use resp_core::{ErrorKind, RedisError, RedisResult, Value};
 use std::alloc::{AllocError, Global};
 use std::cmp::Ordering;
 use std::marker::Model;
+
+/// The most pairs that replies may have: a list has no more items.
+const MOST_PAIRS: usize = isize::MAX as usize;
 
 /// A key and the sum of its numbers.
 #[derive(Drop)]
@@ -49,8 +52,8 @@ impl Total {
 /// # Errors
 ///
 /// `UnexpectedReturnType` if a reply is not an array of bulk strings and numbers in turn. Also if
-/// the sum of a key does not fit in an i64. A running sum has 128 bits. `OutOfMemory` if memory
-/// runs out, as for 2^63 pairs.
+/// the sum of a key does not fit in an i64, or if there are more than 2^63-1 pairs. A running sum
+/// has 128 bits. `OutOfMemory` if memory runs out.
 #[tactic(auto, using(crate::proofs::TotalOrders::any_order))]
 pub fn combine_map_results(alloc: Global, values: Vec<Value>) -> RedisResult<Value>
     ensures answer { MatchResult result
@@ -58,35 +61,41 @@ pub fn combine_map_results(alloc: Global, values: Vec<Value>) -> RedisResult<Val
         (λ fault. (fault ≡ out_of_memory)
         ⊎ ((combined_map (map view values.items) ≡ None)
         × (fault.kind ≡ UnexpectedReturnType))) }
+    // So many pairs are refused as such, and take no memory.
+    ensures too_many { IfSome (all_pairs (map view values.items)) (λ pairs. 2 ^ 63 ≤ length pairs
+        → IfErr result (λ fault. fault.kind ≡ UnexpectedReturnType)) }
     ensures listing { (all : List KeyNumber) → IsListing all (totals all) }
     ensures any_order { (others : List Reply) → IsPermutation (map view values.items) others
         → combined_map others ≡ combined_map (map view values.items) }
 {
-    let Some(totals) = add_up(alloc, values)? else {
-        return Err(RedisError::from((
-            ErrorKind::UnexpectedReturnType,
-            "a reply is not an array of keys and numbers in turn",
-        )));
+    let Some(count) = pair_count(&values) else {
+        return Err(misfit("there are more than 2^63-1 pairs"));
+    };
+    let Some(totals) = add_up(alloc, values, count)? else {
+        return Err(misfit("a reply is not an array of keys and numbers in turn"));
     };
     match to_entries(alloc, by_key(totals))? {
         Some(list) => Ok(Value::Map(list)),
-        None => Err(RedisError::from((
-            ErrorKind::UnexpectedReturnType,
-            "the sum of a key does not fit in an i64",
-        ))),
+        None => Err(misfit("the sum of a key does not fit in an i64")),
     }
 }
 
+/// The error of replies that make no map.
+#[cold]
+fn misfit(desc: &'static str) -> RedisError
+    ensures { result.kind ≡ UnexpectedReturnType }
+{
+    RedisError::from((ErrorKind::UnexpectedReturnType, desc))
+}
+
 /// Totals of the pairs, if each reply is an array of bulk strings and numbers in turn. A key may
-/// have several, whose sum is its total.
-fn add_up(alloc: Global, values: Vec<Value>) -> Result<Option<Vec<Total>>, AllocError>
-    ensures totals { IfOk result (λ sums. (q : List ℕ)
+/// have several, whose sum is its total. `room` is for the pairs.
+fn add_up(alloc: Global, values: Vec<Value>, room: usize) -> Result<Option<Vec<Total>>, AllocError>
+    ensures { IfOk result (λ sums. (q : List ℕ)
         → option_map (λ totals. total_at q totals.items) sums
         ≡ option_map (total_at q) (all_pairs (map view values.items))) }
-    ensures few { OnOk result (IfSome (all_pairs (map view values.items))
-        (λ pairs. length pairs < 2 ^ 63)) }
 {
-    let mut totals = Vec::with_capacity(alloc, pair_room(&values))?;
+    let mut totals = Vec::with_capacity(alloc, room)?;
     for value in values {
         let Some(items) = value.into_array() else {
             return Ok(None);
@@ -98,18 +107,18 @@ fn add_up(alloc: Global, values: Vec<Value>) -> Result<Option<Vec<Total>>, Alloc
     Ok(Some(totals))
 }
 
-/// Room for the pairs of all replies.
-fn pair_room(values: &[Value]) -> usize
-    ensures { IfSome (all_pairs (map view values.now))
-        (λ pairs. result < 2 ^ 63 → length pairs ≤ result) }
+/// How many pairs the replies have, unless these are too many.
+fn pair_count(values: &[Value]) -> Option<usize>
+    ensures { IfSome (all_pairs (map view values.now)) (λ pairs. result
+        ≡ (if nat_lt (length pairs) (2 ^ 63) then Some (length pairs) else None)) }
 {
-    let mut room = 0_usize;
+    let mut count = 0_usize;
     for value in values {
         if let Some(items) = value.as_array() {
-            room = room.saturating_add(items.len() / 2);
+            count = count.saturating_add(items.len() / 2);
         }
     }
-    room
+    (count <= MOST_PAIRS).then_some(count)
 }
 
 /// Adds the pairs of the items, if these are bulk strings and numbers in turn.
@@ -167,7 +176,7 @@ fn add_number(
     }
 }
 
-/// The sum of two totals, which leaves the 128 bits only after more pairs than memory holds.
+/// The sum of two totals, which leaves the 128 bits only after 2^64 pairs, more than are added.
 fn sum_of(total: i128, number: i128) -> Result<i128, AllocError>
     ensures { IfOk result (λ sum. sum ≡ total +ℤ number) }
 {

@@ -145,10 +145,6 @@ module _ (items : List (SlotRoute × Vec ℕ Global)) (index : ℕ) (inside : in
   within : index < length (route_lists items)
   within = omega (arith, inside, length-map items route_list)
 
-  -- the slot of a list
-  pub slot_at : get_or (slots_of (route_lists items)) index 0 ≡ item.0.slot
-  slot_at = get_or-map (λ (r : RouteList). r.0.slot) (route_lists items) index (route_list item) 0 within ∙ ap (λ (r : RouteList). r.0.slot) list_at
-
   -- the lists as they are kept, where that of a slot gets the places
   pub lists_longer : (route : SlotRoute) (places : List ℕ) (longer : Vec ℕ Global) → index ≡ position_or_len (nat_eq route.slot) (slots_of (route_lists items)) → longer.items ≡ item.1.items ++ places
       → route_lists (set items index (item.0, longer)) ≡ with_places route places (route_lists items)

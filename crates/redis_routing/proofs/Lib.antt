@@ -19,6 +19,7 @@ pub mod RedirectTexts
 pub mod Respelt
 pub mod Routes
 pub mod SelfRouting
+pub mod SlotNumbers
 pub mod Slots
 pub mod SomeRoutes
 pub mod SplitLaws

@@ -1,2 +1,2 @@
 pub mod NameSpots
-pub mod SlotHash
+pub mod SlotPages

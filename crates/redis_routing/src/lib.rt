@@ -13,7 +13,7 @@ mod registry;
 mod routable;
 mod route_by;
 mod rules;
-mod slot_set;
+mod slot_pages;
 mod split_command;
 mod splitting;
 mod sub_commands;

@@ -2,6 +2,7 @@ ghost use Rattle.std.specs.Prelude.{◌≡◌, ◌<◌, ◌^◌, ◌+◌, ◌-�
 ghost use Rattle.std.specs.List.{position_or_len, range_with_len};
 ghost use Rattle.cluster_slots.specs.ArgPattern.{tuple_args_count};
 ghost use Rattle.indexmap.specs.IndexSet.{insert_key};
+ghost use Rattle.redis_routing.specs.Inner.SlotPages.{AreNumbered};
 ghost use Rattle.redis_routing.specs.Groups.{lists_of_tuples, with_places, with_shared};
 ghost use Rattle.redis_routing.specs.RoutingInfo.{as_routing, route_lists};
 ghost use Rattle.redis_routing.specs.Routing.{to_slots, routes_of, routing_of_routes};
@@ -14,17 +15,12 @@ ghost use Rattle.redis_routing.specs.Tuples.{tuples_in};
 use super::info::{MultipleNodeRoutingInfo, RoutingInfo, SingleNodeRoutingInfo, nodes_for};
 use crate::policy::ResponsePolicy;
 use crate::routable::Routable;
-use crate::slot_set::SlotSet;
-use cluster_slots::{MultiSlotArgPattern, Route, SLOT_SIZE, SlotAddr};
+use crate::slot_pages::{SlotPages, new_slot_pages, number_of};
+use cluster_slots::{MultiSlotArgPattern, Route, SlotAddr};
 use std::alloc::{AllocError, Global};
-use std::hash::BuildHasherDefault;
 
-/// Up to this many tuples, the list of a slot is found by a search and not by a set.
-const FEW: usize = 40;
-
-/// A set has room for this many slots for each tuple, and at most for all slots: a group of the set for
-/// each tuple. So picked slots cost at most twice as much as others.
-const ROOM_PER_TUPLE: usize = 9;
+/// The most routes that there is room for at first.
+const FIRST_ROUTES: usize = 40;
 
 /// The number of arguments that a command's name takes. A name longer than the first argument takes
 /// two.
@@ -112,49 +108,35 @@ fn group_by_slot<R: Routable>(
 {
     let width = pattern.width();
     let count = own / width;
-    let mut slots = new_slot_set(alloc, count)?;
-    let mut lists = Vec::with_capacity(alloc, count.min(FEW))?;
+    let mut pages = new_slot_pages(alloc, count)?;
+    let mut lists = Vec::with_capacity(alloc, count.min(FIRST_ROUTES))?;
     for number in 0..count {
         let place = number * width;
         let Some(key) = command.arg_idx(place + words) else {
             unreachable!()
         };
         let route = Route::with_key(key, nodes);
-        add(alloc, &mut lists, &mut slots, route, place, width)?;
+        add(alloc, &mut lists, &mut pages, route, place, width)?;
     }
     Ok(lists)
-}
-
-/// An empty set of slots, or `None` if there are few tuples.
-fn new_slot_set(alloc: Global, count: usize) -> Result<Option<SlotSet>, AllocError>
-    ensures { IfOk result (λ slots. IfSome slots (λ set. set.keys ≡ [])) }
-{
-    if count <= FEW {
-        return Ok(None);
-    }
-    let room = count.saturating_mul(ROOM_PER_TUPLE);
-    let room = room.min(usize::from(SLOT_SIZE));
-    let set = SlotSet::with_capacity_and_hasher(alloc, room, BuildHasherDefault::new())?;
-    Ok(Some(set))
 }
 
 /// Appends the indices of a tuple to its slot's list, or to a new list if the slot has none.
 fn add(
     alloc: Global,
     lists: &mut Vec<(Route, Vec<usize>)>,
-    slots: &mut Option<SlotSet>,
+    pages: &mut SlotPages,
     route: Route,
     place: usize,
     width: usize,
 ) -> Result<(), AllocError>
     requires fits { place + width < 2 ^ 64 }
-    requires slots { IfSome slots.old (λ set. set.keys ≡ slots_of (route_lists lists.old.items)) }
+    requires slots { AreNumbered pages.old (slots_of (route_lists lists.old.items)) }
     ensures lists { OnOk result (route_lists lists.new.items
         ≡ with_places route (range_with_len place width) (route_lists lists.old.items)) }
-    ensures slots { OnOk result
-        (IfSome slots.new (λ set. set.keys ≡ slots_of (route_lists lists.new.items))) }
+    ensures slots { OnOk result (AreNumbered pages.new (slots_of (route_lists lists.new.items))) }
 {
-    let index = list_index(lists, slots, route.slot())?;
+    let index = list_index(lists, pages, route.slot())?;
     if index < lists.len() {
         return push_places(&mut lists[index].1, place, place + width);
     }
@@ -164,35 +146,24 @@ fn add(
     Ok(())
 }
 
-/// The index of a slot's list, or the number of lists if the slot has none. A new slot is put into
-/// the set, if there is one.
+/// The index of a slot's list. A slot without a list gets the index of the next one.
 fn list_index(
     lists: &[(Route, Vec<usize>)],
-    slots: &mut Option<SlotSet>,
+    pages: &mut SlotPages,
     slot: u16,
 ) -> Result<usize, AllocError>
-    requires slots { IfSome slots.old (λ set. set.keys ≡ slots_of (route_lists lists.now)) }
+    requires slots { AreNumbered pages.old (slots_of (route_lists lists.now)) }
     ensures index { IfOk result (λ index. index
         ≡ position_or_len (nat_eq slot) (slots_of (route_lists lists.now))) }
-    ensures slots { OnOk result (IfSome slots.new (λ set. set.keys
-        ≡ insert_key nat_eq (slots_of (route_lists lists.now)) slot)) }
+    ensures slots { OnOk result (AreNumbered pages.new
+        (insert_key nat_eq (slots_of (route_lists lists.now)) slot)) }
 {
-    match slots {
-        Some(set) => Ok(set.insert_full(slot)?.0),
-        None => Ok(search(lists, slot)),
-    }
-}
-
-/// The index of a slot's list, or the number of lists if the slot has none.
-fn search(lists: &[(Route, Vec<usize>)], slot: u16) -> usize
-    ensures { result ≡ position_or_len (nat_eq slot) (slots_of (route_lists lists.now)) }
-{
-    for index in 0..lists.len() {
-        if lists[index].0.slot() == slot {
-            return index;
-        }
-    }
-    lists.len()
+    // There are 16384 slots, and a list for each at most.
+    let Ok(next) = u16::try_from(lists.len() + 1) else {
+        return Err(AllocError);
+    };
+    let number = number_of(pages, slot, next)?;
+    Ok(usize::from(number) - 1)
 }
 
 /// Appends the indices from `start` up to `end`.

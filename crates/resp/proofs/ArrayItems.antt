@@ -4,14 +4,14 @@ use Rattle.std.proofs.lemmas.Grind.{common_steps}
 use Rattle.std.specs.List.{AllByRecursion}
 use Rattle.std.proofs.lemmas.List.{append_cancel_left, drop_more, length-append}
 use Rattle.resp_core.specs.Reply.{Reply, nil, bulk, int, array, simple, okay, pairs, replies_of}
-use Rattle.resp.specs.Forms.{line, form, forms, depth_items, HaveForm, IsBulkOrNil, IsForm}
+use Rattle.resp.specs.Forms.{line, form, forms, depth_items, HaveForm, IsBulkOrNil, IsForm, StandIn}
 use Rattle.resp.specs.Requests.{byte_at, digits_at, line_at, bulk_at}
 use Rattle.resp.specs.declared.stop.Stop.{Stop}
 use Rattle.resp.specs.declared.stop.Stop.TheVariants.{StopsAt}
 use Rattle.resp.specs.declared.reading.TheConstants.{MAX_LEVELS}
 use Rattle.resp.proofs.Grammar.{written}
 use Rattle.resp.proofs.Readers.{same_rest, same_value, no_read}
-use Rattle.resp.proofs.RequestGrammar.{bulk_again, line_again}
+use Rattle.resp.proofs.RequestGrammar.{bulk_again, line_again, line_front}
 use Rattle.resp.proofs.Written.{count_is}
 
 pub forms_push : (rs : List Reply) (r : Reply) → forms (replies_of (rs ++ r ∷ [])) ≡ forms (replies_of rs) ++ form r
@@ -67,6 +67,11 @@ many_bytes [] are = omega arith
 many_bytes (r ∷ rs) are = omega (arith, some_bytes r are.0, many_bytes rs are.1, length-append (form r) (forms (replies_of rs)))
 
 -- ---- an array, by its first line
+
+-- items that follow the line stand in the array's bytes
+pub stand_after : (bytes first rest : List ℕ) (count : ℕ) (rs : List Reply) → line_at 42 bytes ≡ Ok (count, first) → first ≡ forms (replies_of rs) ++ rest → StandIn bytes rs
+stand_after bytes first rest count rs is front =
+    (line 42 (decimal count), rest, (line_front 42 bytes first count is).0 ∙ ap (λ (ts : List ℕ). line 42 (decimal count) ++ ts) front)
 
 array_bytes : (rs : List Reply) (bytes rest : List ℕ) → bytes ≡ form (array (replies_of rs)) ++ rest → bytes ≡ line 42 (decimal (length rs)) ++ (forms (replies_of rs) ++ rest)
 array_bytes rs bytes rest same = same ∙ ap (λ t. t ++ rest) (array_is rs) ∙ append_assoc (line 42 (decimal (length rs))) (forms (replies_of rs)) rest

@@ -9,14 +9,13 @@ use Rattle.std.proofs.lemmas.Grind.{common_steps}
 use Rattle.resp_core.specs.Reply.{nil, int, bulk}
 use Rattle.resp.specs.declared.fault.Fault.{Fault}
 use Rattle.resp.specs.declared.fault.Fault.TheVariants.{Incomplete, Malformed, TooDeep}
-use Rattle.resp.specs.declared.fault.ReadError.TheVariants as errors
 use Rattle.resp.specs.Forms.{Answer, answer_before, array_of_all, simple_of, number_up_to, int_in, length_in, crlf}
-use Rattle.resp.specs.Reading.{◌>>=◌, or_malformed, Items, after_line_end, text_until_line_end, after_text, is_before_digits, is_before_length, int_at, length_at, bytes_at, flat_at, times_at, array_items_at, array_at, front_at, answer_at, CanBeCompleted, HasNoAnswer, BeginsNone, Cause}
+use Rattle.resp.specs.Reading.{◌>>=◌, or_malformed, Items, after_line_end, text_until_line_end, after_text, is_before_digits, is_before_length, int_at, length_at, bytes_at, flat_at, times_at, array_items_at, array_at, front_at, answer_at}
 use Rattle.resp_core.proofs.Cases.{by_test}
 use Rattle.resp.proofs.Steps.{chosen, done, failed, both}
 use Rattle.resp.proofs.Lines.{ended_longer, open_longer, ended_takes}
 use Rattle.resp.proofs.Longer.{Continues, Continuous, drop_front, cases_of, ints_continue, lengths_continue, times_continue, answer_continues}
-use Rattle.resp.proofs.Grammar.{int_again, length_again, nothing_again, bytes_again, nil_front, answer_takes, answer_again}
+use Rattle.resp.proofs.Grammar.{int_again, length_again, nothing_again, bytes_again, nil_front}
 
 -- these bytes and more are read, to the last
 abbrev pub Filled : {A : Type 0} → (List ℕ → Result (A × List ℕ) Fault) → List ℕ → Type 0
@@ -299,28 +298,3 @@ pub answer_completes : (levels : ℕ) → Completable (answer_at levels)
 unfolding answer_at
 answer_completes zero = front_complete (λ rest. Err TooDeep) (λ bytes e. absurd (no_too_deep e))
 answer_completes (suc levels) = front_complete (array_at (times_at (answer_at levels))) (nested_complete (answer_at levels) (answer_continues levels) (answer_completes levels) (answer_begins levels))
-
--- ---- the causes
-
-incomplete : (bytes : List ℕ) → answer_at 32 bytes ≡ Err Incomplete → CanBeCompleted bytes
-incomplete bytes e = grind (arith, answer_completes, answer_takes, append-nil)
-
-no_answer : {A : Type 0} (x : A) (f : Fault) → done x ≡ failed f → ⊥
-no_answer x f e = absurd cc
-
-none_stands : (bytes : List ℕ) (fault : Fault) → answer_at 32 bytes ≡ Err fault → HasNoAnswer bytes
-none_stands bytes fault fails = λ a form rest is e. no_answer (a, rest) fault (sym (answer_again 32 a form rest is) ∙ ap (answer_at 32) (sym e) ∙ fails)
-
-begins_none : (bytes : List ℕ) (fault : Fault) → ((more : List ℕ) → answer_at 32 (bytes ++ more) ≡ Err fault) → BeginsNone bytes
-begins_none bytes fault stays = λ more. none_stands (bytes ++ more) fault (stays more)
-
-malformed : (bytes : List ℕ) → answer_at 32 bytes ≡ Err Malformed → BeginsNone bytes
-malformed bytes e = begins_none bytes Malformed (λ more. subst (λ (r : Result (Answer × List ℕ) Fault). Continues r more (answer_at 32 (bytes ++ more))) e (answer_continues 32 bytes more))
-
-too_deep : (bytes : List ℕ) → answer_at 32 bytes ≡ Err TooDeep → BeginsNone bytes
-too_deep bytes e = begins_none bytes TooDeep (λ more. subst (λ (r : Result (Answer × List ℕ) Fault). Continues r more (answer_at 32 (bytes ++ more))) e (answer_continues 32 bytes more))
-
-pub fault_cause : (bytes : List ℕ) (fault : Fault) → answer_at 32 bytes ≡ Err fault → Cause bytes (errors.Fault fault)
-fault_cause bytes Incomplete e = (e, (none_stands bytes Incomplete e, incomplete bytes e))
-fault_cause bytes Malformed e = (e, malformed bytes e)
-fault_cause bytes TooDeep e = (e, too_deep bytes e)

@@ -1,6 +1,6 @@
 -- What is read of a head is a head, and each head is read. Reading of more bytes goes on as it was,
 -- and what is incomplete can be completed.
-use Rattle.std.proofs.Common.{◌≡◌, ◌≢◌, ℕ, zero, suc, ◌*◌, ◌+◌, ◌-◌, ◌^◌, ◌<◌, ◌≤◌, true, false, cond, eqb, take, drop, List, [], ◌∷◌, ◌++◌, length, codes, Option, Some, None, Result, Ok, refl, sym, ap, subst, ◌∙◌, arith, inl, inr}
+use Rattle.std.proofs.Common.{◌≡◌, ◌≢◌, ℕ, zero, suc, ◌*◌, ◌+◌, ◌-◌, ◌^◌, ◌<◌, ◌≤◌, true, false, cond, eqb, take, drop, get_or, List, [], ◌∷◌, ◌++◌, length, codes, Option, Some, None, Result, Ok, refl, sym, ap, subst, ◌∙◌, arith, inl, inr}
 use Rattle.std.proofs.lemmas.Grind.{common_steps}
 use Rattle.std.specs.Prelude.{bytes_eq}
 use Rattle.std.specs.Option.{unwrap_or}
@@ -16,7 +16,7 @@ use Rattle.resp.specs.declared.heads.Kind.{Kind}
 use Rattle.resp.specs.declared.heads.Kind.TheVariants.{Simple, Bulk, Array, Map, Attribute}
 use Rattle.resp.specs.Forms.{Answer, crlf, line, length_in}
 use Rattle.resp.specs.Reading.{◌>>=◌, or_malformed, after_line_end, text_until_line_end, after_text, is_before_length, length_at, bytes_at}
-use Rattle.resp.specs.Messages.{kind_of, announced, Announces, IsHead, IsSearched, length_from, announced_at, head_at, head_of}
+use Rattle.resp.specs.Messages.{kind_of, announced, Announces, IsHead, IsSearched, leading_zeros, length_from, announced_at, head_at, head_of}
 use Rattle.resp.proofs.Steps.{bind_ok, done, ok_is, chosen, some_of}
 use Rattle.resp.proofs.Digits.{and_false, number_after, number_in_is, number_below}
 use Rattle.resp.proofs.Lines.{is_end, text_in_line}
@@ -189,6 +189,13 @@ zeros_skipped : (limit n : ℕ) (text : List ℕ) → 0 < limit → AllByRecursi
 zeros_skipped limit zero text some h le = refl
 zeros_skipped limit (suc n) [] some h le = absurd (omega (arith, le))
 zeros_skipped limit (suc n) (b ∷ text) some h le = grind (arith, common_steps, zeros_skipped limit n text some h.1 (omega (arith, le)))
+
+-- so many zeros lead a text if no zero follows them
+pub zeros_end : (text : List ℕ) (n : ℕ) → AllByRecursion IsZero (take n text) → n ≤ length text → (n < length text → get_or text n 0 ≢ 48) → n ≡ leading_zeros text
+unfolding leading_zeros
+zeros_end [] n h le next = omega (arith, le)
+zeros_end (b ∷ text) zero h le next = grind (arith, common_steps, nat_tests)
+zeros_end (b ∷ text) (suc n) h le next = grind (arith, common_steps, nat_tests, zeros_end text n h.1)
 
 abbrev after_zeros : List ℕ → Option ℕ
 after_zeros digits = cond (eqb (length digits) 0) (Some 0) (length_in digits)

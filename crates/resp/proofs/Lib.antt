@@ -4,6 +4,8 @@ pub mod Lines
 pub mod Longer
 pub mod Grammar
 pub mod Complete
+pub mod Deeper
+pub mod Faults
 pub mod Times
 pub mod Fronts
 pub mod HeadGrammar

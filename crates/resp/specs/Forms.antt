@@ -200,6 +200,11 @@ IsBulkOrNil nil = Unit {0}
 IsBulkOrNil (bulk bytes) = length bytes < 2 ^ 63
 IsBulkOrNil _ = ⊥
 
+-- the forms of these replies stand in the bytes, one after another
+abbrev pub StandIn : List ℕ → List Reply → Type 0
+StandIn bytes replies = (front : List ℕ) × (rest : List ℕ)
+    × (bytes ≡ front ++ (forms (replies_of replies) ++ rest))
+
 -- ---- requests
 
 -- a request: an array of bulk strings, with no sign or leading zero in its numbers

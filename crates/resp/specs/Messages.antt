@@ -81,6 +81,17 @@ abbrev pub IsSearched : List ℕ → Type 0
 IsSearched [] = Unit {0}
 IsSearched (mark ∷ text) = kind_of mark ≢ Some Simple → AllByRecursion (λ b. b ≡ 48) text
 
+unfoldable pub leading_zeros : List ℕ → ℕ
+leading_zeros [] = 0
+leading_zeros (b ∷ text) = if b == 48 then leading_zeros text + 1 else 0
+
+-- So many bytes of a head are known, by its line so far. Of a simple line they are all bytes. Of a
+-- length they are its mark and the leading zeros.
+abbrev pub IsKnown : List ℕ → ℕ → Type 0
+IsKnown [] known = known ≡ 0
+IsKnown (mark ∷ text) known = (kind_of mark ≡ Some Simple → known ≡ length text + 1)
+    × (kind_of mark ≢ Some Simple → known ≡ leading_zeros text + 1)
+
 -- The progress is right for these bytes.
 pub record IsScanned (progress : Progress) (bytes : List ℕ) : Type 0 where
   pub items : List ℕ

@@ -1,6 +1,6 @@
 -- Reading an answer from left to right, up to the first fault. `IsForm` says what a whole answer
 -- is, and the contract of `read` joins the two.
-use Rattle.std.specs.Prelude.{◌≡◌, ◌==◌, ◌++◌, ℕ, ℤ, zero, suc, Bool, ◌&&◌, ◌||◌, nat_lt, if◌then◌else◌, List, [], ◌∷◌, length, take, drop, codes, bytes_eq, Option, Some, None, Result, Ok, Err}
+use Rattle.std.specs.Prelude.{◌≡◌, ◌==◌, ◌++◌, ◌+◌, ◌<◌, ℕ, ℤ, zero, suc, Bool, ◌&&◌, ◌||◌, nat_lt, if◌then◌else◌, List, [], ◌∷◌, length, take, drop, codes, bytes_eq, Option, Some, None, Result, Ok, Err}
 use Rattle.resp_core.specs.Reply.{Reply, nil, int, bulk}
 use Rattle.resp.specs.declared.reading.TheConstants.{MAX_LEVELS}
 use Rattle.resp.specs.declared.fault.Fault.{Fault}
@@ -130,7 +130,7 @@ unfoldable pub answer_at : ℕ → List ℕ → Result (Answer × List ℕ) Faul
 answer_at zero bytes = front_at (λ rest. Err TooDeep) bytes
 answer_at (suc levels) bytes = front_at (array_at (times_at (answer_at levels))) bytes
 
--- ---- why nothing was read
+-- ---- faults
 
 -- some more bytes complete these to a whole answer
 abbrev pub CanBeCompleted : List ℕ → Type 0
@@ -145,13 +145,26 @@ HasNoAnswer bytes = (a : Answer) (form rest : List ℕ) → IsForm MAX_LEVELS a 
 abbrev pub BeginsNone : List ℕ → Type 0
 BeginsNone bytes = (more : List ℕ) → HasNoAnswer (bytes ++ more)
 
--- what a fault says of the bytes
+-- With arrays nested at most so deep, an answer stands at the front of these bytes and some more.
+abbrev pub BeginsOne : ℕ → List ℕ → Type 0
+BeginsOne levels bytes = (more : List ℕ) × (a : Answer) × (form : List ℕ) × (rest : List ℕ)
+    × (bytes ++ more ≡ form ++ rest) × IsForm levels a form
+
+-- The byte at this index is the first that no answer can have there.
+abbrev pub IsFirstWrong : List ℕ → ℕ → Type 0
+IsFirstWrong bytes index = (index < length bytes) × CanBeCompleted (take index bytes)
+    × BeginsNone (take (index + 1) bytes)
+
+-- What a fault says of the bytes. Up to the first wrong byte, and with it, malformed bytes begin no
+-- answer of any depth, and bytes that are too deep begin a deeper one.
 abbrev pub Says : Fault → List ℕ → Type 0
 Says Incomplete bytes = HasNoAnswer bytes × CanBeCompleted bytes
-Says Malformed bytes = BeginsNone bytes
-Says TooDeep bytes = BeginsNone bytes
+Says Malformed bytes = (index : ℕ) × IsFirstWrong bytes index
+    × ((levels : ℕ) → BeginsOne levels (take (index + 1) bytes) → ⊥)
+Says TooDeep bytes = (index : ℕ) × IsFirstWrong bytes index
+    × (levels : ℕ) × BeginsOne levels (take (index + 1) bytes)
 
--- The fault is the first from the left, and the bytes are as it says.
+-- why nothing was read
 abbrev pub Cause : List ℕ → ReadError → Type 0
 Cause bytes errors.Memory = Unit {0}
-Cause bytes (errors.Fault fault) = (answer_at MAX_LEVELS bytes ≡ Err fault) × Says fault bytes
+Cause bytes (errors.Fault fault) = Says fault bytes

@@ -2,7 +2,7 @@ ghost use Rattle.std.specs.Prelude.{◌≡◌, ◌++◌, ◌≤◌, length, take
 ghost use Rattle.std.specs.List.{AllByRecursion};
 ghost use Rattle.resp.specs.Forms.{IsInLine};
 ghost use Rattle.resp.specs.Reading.{IsRead, text_until_line_end, after_text};
-ghost use Rattle.resp.specs.Messages.{kind_of, IsSearched, length_from, announced_at, head_of};
+ghost use Rattle.resp.specs.Messages.{kind_of, IsSearched, IsKnown, leading_zeros, length_from, announced_at, head_of};
 
 use crate::fault::Fault;
 use crate::fields::{bulk_of, end_of, length_at, line_of};
@@ -56,6 +56,7 @@ pub(super) fn searched_of(line: &[u8], searched: usize) -> usize
     requires { searched ≤ length line.now }
     ensures within { result ≤ length line.now }
     ensures zeros { IsSearched (take searched line.now) → IsSearched (take result line.now) }
+    ensures known { IsSearched (take searched line.now) → IsKnown line.now result }
 {
     let [mark, text @ ..] = line else {
         return 0;
@@ -72,6 +73,8 @@ fn zeros_of(text: &[u8], zeros: usize) -> usize
     ensures within { result ≤ length text.now }
     ensures zeros { AllByRecursion (λ b. b ≡ 48) (take zeros text.now)
         → AllByRecursion (λ b. b ≡ 48) (take result text.now) }
+    ensures all { AllByRecursion (λ b. b ≡ 48) (take zeros text.now)
+        → result ≡ leading_zeros text.now }
 {
     let (_, more) = text.split_at(zeros);
     for (index, b) in more.iter().enumerate() {

@@ -1,7 +1,7 @@
 ghost use Rattle.std.specs.Prelude.{◌≡◌, ◌++◌, ℕ, List, map, IfOk, IfSome, MatchOption, Ok};
 ghost use Rattle.std.specs.List.{AllByRecursion};
 ghost use Rattle.resp_core.specs.Reply.{Reply, array, replies_of};
-ghost use Rattle.resp.specs.Forms.{form, IsForm, IsBulkOrNil};
+ghost use Rattle.resp.specs.Forms.{form, IsForm, IsBulkOrNil, StandIn};
 
 use crate::reading::MAX_LEVELS;
 use crate::requests::{bulk_at, line_at};
@@ -12,11 +12,11 @@ use std::alloc::AllocError;
 /// `$1\r\na\r\n` and `$-1\r\n`.
 ///
 /// `None` if the bytes do not begin with an array as `write` writes it, or an item is no bulk string
-/// and no nil. Then some items may have been appended. The cost is O(bytes).
+/// and no nil. Then some of its items may have been appended. The cost is O(bytes).
 ///
 /// # Errors
 ///
-/// If memory runs out.
+/// If memory runs out. Then some of the items may have been appended.
 pub fn push_items<'a>(
     items: &mut Vec<&'a [u8]>,
     bytes: &'a [u8],
@@ -33,10 +33,11 @@ pub fn push_items<'a>(
     ensures only { (values : List Reply) (rest : List ℕ) → AllByRecursion IsBulkOrNil values
         → bytes.now ≡ form (array (replies_of values)) ++ rest
         → IfOk result (λ found. MatchOption found ⊥ (λ after. after.now ≡ rest)) }
-    // The items that were there stay.
-    ensures before { IfOk result (λ found. (more : List (List ℕ))
-        × (map (λ item. item.now) items.new.items
-        ≡ map (λ item. item.now) items.old.items ++ more)) }
+    // The items that were there stay, also after an error. What is appended are bulk strings and
+    // nils that stand in the bytes, one after another.
+    ensures before { (values : List Reply) × AllByRecursion IsBulkOrNil values
+        × StandIn bytes.now values × (map (λ item. item.now) items.new.items
+        ≡ map (λ item. item.now) items.old.items ++ map form values) }
 {
     let Ok((count, first)) = line_at(bytes, b'*') else {
         return Ok(None);

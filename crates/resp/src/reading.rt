@@ -26,17 +26,21 @@ pub(super) const MOST_ITEMS: u64 = 16;
 ///
 /// # Errors
 ///
-/// `Incomplete` if more bytes can complete the reply, `Malformed` if none can, `TooDeep` if arrays
-/// are nested deeper than `MAX_LEVELS`. `Memory` if memory runs out.
+/// `Incomplete` if more bytes can complete the reply. `Malformed` if none can, at any limit on nested
+/// arrays. `TooDeep` if arrays are nested deeper than `MAX_LEVELS`. The first wrong byte decides.
+/// `Memory` if memory runs out.
 pub fn read(alloc: Global, bytes: &[u8]) -> Result<(Response, &[u8]), ReadError>
+    // The outermost array is counted too.
+    ensures levels { MAX_LEVELS ≡ 32 }
     // What is read is a form at the front of the bytes.
     ensures found { IfOk result (λ x. (form : List ℕ)
         × (bytes.now ≡ form ++ x.1.now) × IsForm MAX_LEVELS (answer x.0) form) }
     // Each form at the front is read, whatever follows, unless memory runs out.
     ensures only { (a : Answer) (form rest : List ℕ) → IsForm MAX_LEVELS a form → bytes.now ≡ form ++ rest
         → Gives {Y = Answer × List ℕ} (λ x. (answer x.0, x.1.now)) result (Ok (a, rest)) }
-    // The first fault from the left is reported. Incomplete bytes hold no whole answer, and can be
-    // completed. Bytes that are malformed or too deep can't.
+    // Incomplete bytes hold no whole answer, and can be completed. Other bytes have a first wrong
+    // byte. Up to it, and with it, malformed bytes begin no answer of any depth, and bytes that are
+    // too deep begin a deeper one.
     ensures cause { IfErr result (λ e. Cause bytes.now e) }
 {
     response_at(alloc, bytes, MAX_LEVELS)

@@ -1,6 +1,7 @@
 ghost use Rattle.std.specs.Prelude.{◌⊎◌, ◌≡◌, ◌++◌, ◌+◌, ◌<◌, ◌≤◌, ◌≢◌, ℕ, List, drop, length, Ok, Err, IfOk, IfErr, OnOk};
 ghost use Rattle.resp.specs.Forms.{Answer, IsForm};
-ghost use Rattle.resp.specs.Messages.{head_at, IsMessage, IsScanned, MessageCause, unscanned};
+ghost use Rattle.resp.specs.Messages.{head_at, IsKnown, IsMessage, IsScanned, MessageCause, unscanned};
+ghost use Rattle.resp.specs.Reading.{text_until_line_end};
 
 use crate::fault::Fault;
 use crate::heads::{head_of, line_from, searched_of};
@@ -67,6 +68,9 @@ pub fn scan(progress: &mut Progress, bytes: &[u8]) -> Result<usize, Fault>
     // No whole head stands after the bytes that were stepped over.
     ensures onward { IsScanned progress.old bytes.now → result ≡ Err Fault.Incomplete
         → head_at (drop progress.new.bytes bytes.now) ≡ Err Fault.Incomplete }
+    // What is known of that head is not searched again.
+    ensures searched { IsScanned progress.old bytes.now → result ≡ Err Fault.Incomplete
+        → IsKnown (text_until_line_end (drop progress.new.bytes bytes.now)) progress.new.searched }
     // The rest holds for any progress.
     ensures within { IfOk result (λ len. len ≤ length bytes.now) }
     ensures some { IfOk result (λ len. 0 < len) }

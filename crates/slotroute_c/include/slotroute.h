@@ -96,9 +96,9 @@ typedef struct slotroute_progress {
 /* Looks for the end of the first message, of RESP2 or RESP3, and goes on where the last call
  * stopped. All fields of progress are 0 for a new message. bytes begins with the message's first
  * byte at each call, and has all bytes of the earlier calls. Takes no memory. SLOTROUTE_DONE:
- * progress->bytes is the message's length. SLOTROUTE_REPLY_INCOMPLETE: call again, with more bytes
- * and the same progress. SLOTROUTE_REPLY_MALFORMED: no bytes complete the message. A request is such
- * a message too, but slotroute_request_len is stricter. */
+ * progress->bytes is the message's length, at least 1. SLOTROUTE_REPLY_INCOMPLETE: call again, with
+ * more bytes and the same progress. SLOTROUTE_REPLY_MALFORMED: no bytes complete the message. A
+ * request is such a message too, but slotroute_request_len is stricter. */
 uint32_t slotroute_scan(const uint8_t *bytes, size_t bytes_len, slotroute_progress *progress);
 
 /* Where a request goes. */
@@ -171,8 +171,8 @@ uint32_t slotroute_combine(const uint8_t *request, size_t request_len,
 /* Writes the one reply to a request that went whole to count nodes, as KEYS. policy is that of
  * slotroute_route. replies has the reply of each node, in the order of the nodes. The one reply may
  * be an error of a node. A map is an array of its keys and values. told->bytes is the length of the
- * one reply. SLOTROUTE_NO_FORM: the policy is SLOTROUTE_NO_POLICY, SLOTROUTE_SPECIAL, as of INFO, or
- * no number of a policy; or the replies do not fit the policy. told->request is then 0, and if a
+ * one reply. SLOTROUTE_NO_FORM, which no other call returns: the policy is SLOTROUTE_NO_POLICY,
+ * SLOTROUTE_SPECIAL, as of INFO, or no number of a policy; or the replies do not fit the policy. If a
  * reply is at fault, told->batch is 0. */
 uint32_t slotroute_combine_answers(uint32_t policy, size_t count,
                                    const uint8_t *replies, size_t replies_len,
@@ -218,8 +218,7 @@ uint32_t slotroute_split_pipeline(const uint8_t *requests, size_t requests_len,
  * these batch after batch, in whatever order the batches were sent. names and numbers have to be as
  * they were for the split. An error is the reply to its command, or to the command whose part it answers.
  * told->bytes is the length of the replies. If a reply is at fault, told->batch is the number of
- * its batch and told->reply its number there. If the reply to a request
- * cannot be written (SLOTROUTE_NO_FORM), told->request is the number of the request. */
+ * its batch and told->reply its number there. */
 uint32_t slotroute_combine_pipeline(const uint8_t *requests, size_t requests_len,
                                     const uint8_t *names, size_t names_len,
                                     const uint16_t *numbers, size_t numbers_len,

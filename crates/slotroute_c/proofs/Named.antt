@@ -23,7 +23,6 @@ not_named text (faults.Reply n f) why number is other = absurd why
 not_named text (faults.Error n t) why number is other = absurd why
 not_named text (faults.AfterReplies end) why number is other = absurd why
 not_named text (faults.Unfit kind) why number is other = absurd why
-not_named text faults.NoForm why number is other = absurd why
 not_named text faults.LineFeedInHost why number is other = absurd why
 
 pub batches_by : (names numbers requests : List ℕ) (registered : Registrations) (batches : BatchBytes) → AreNamesIn names registered → (plan : PipelineBatches) × IsPlanOfRequests registered numbers requests plan × AreBatchesOf plan.splits plan.batches batches → AreBatchesBy names numbers requests batches

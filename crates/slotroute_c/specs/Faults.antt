@@ -5,7 +5,7 @@ use Rattle.resp.specs.declared.fault.RequestFault.TheVariants as request
 use Rattle.redis_bytes.specs.declared.fault.BytesFault.{BytesFault}
 use Rattle.redis_bytes.specs.declared.fault.BytesFault.TheVariants as faults
 use Rattle.slotroute_c.specs.declared.outcomes.Outcome.{Outcome}
-use Rattle.slotroute_c.specs.declared.outcomes.Outcome.TheVariants.{Done, TooSmall, NotText, NoMemory, RequestIncomplete, RequestMalformed, AfterRequest, NotMultiKey, ReplyIsError, AfterReplies, Unfit, NoForm, LineFeedInHost, BadName}
+use Rattle.slotroute_c.specs.declared.outcomes.Outcome.TheVariants.{Done, TooSmall, NotText, NoMemory, RequestIncomplete, RequestMalformed, AfterRequest, NotMultiKey, ReplyIsError, AfterReplies, Unfit, LineFeedInHost, BadName}
 use Rattle.slotroute_c.specs.declared.told.Told.{Told}
 use Rattle.slotroute_c.specs.Fields.{with_at, with_reply_number}
 use Rattle.slotroute_c.specs.Outcomes.{code, of_reply}
@@ -24,7 +24,6 @@ outcome_of (faults.Reply number fault) = of_reply fault
 outcome_of (faults.Error number text) = ReplyIsError
 outcome_of (faults.AfterReplies end) = AfterReplies
 outcome_of (faults.Unfit kind) = Unfit
-outcome_of faults.NoForm = NoForm
 outcome_of faults.LineFeedInHost = LineFeedInHost
 outcome_of (faults.BadName number) = BadName
 

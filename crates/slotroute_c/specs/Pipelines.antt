@@ -62,7 +62,7 @@ outcome_of_batch (faults.NotRoutable number) = NotRoutable
 outcome_of_batch (faults.NotCovered number slot) = NotCovered
 outcome_of_batch (faults.Reply batch number fault) = of_reply fault
 outcome_of_batch (faults.AfterReplies end) = AfterReplies
-outcome_of_batch (faults.NoForm number) = NoForm
+outcome_of_batch faults.NoForm = NoForm
 
 -- a fault is reported by the number of the request, the index of the byte, or the numbers of the
 -- batch and of its reply
@@ -74,4 +74,4 @@ with_batch_fault (faults.NotRoutable number) told = with_request number told
 with_batch_fault (faults.NotCovered number slot) told = with_request number told
 with_batch_fault (faults.Reply batch number fault) told = with_batch batch (with_reply_number number told)
 with_batch_fault (faults.AfterReplies end) told = with_at end told
-with_batch_fault (faults.NoForm number) told = with_request number told
+with_batch_fault faults.NoForm told = told

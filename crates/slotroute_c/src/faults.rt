@@ -1,4 +1,4 @@
-ghost use Rattle.std.specs.Prelude.{◌≡◌};
+ghost use Rattle.std.specs.Prelude.{◌≡◌, ◌≢◌};
 ghost use Rattle.slotroute_c.specs.Outcomes.{code, of_reply};
 ghost use Rattle.slotroute_c.specs.Faults.{of_request, outcome_of, with_fault, with_request_fault, IsOther};
 
@@ -12,6 +12,7 @@ pub(super) fn code_of(fault: &BytesFault, told: &mut Told) -> u32
     ensures code { result ≡ code (outcome_of fault.now) }
     ensures told { told.new ≡ with_fault fault.now told.old }
     ensures other { IsOther result }
+    ensures form { result ≢ code Outcome.NoForm }
 {
     match fault {
         BytesFault::Memory => Outcome::NoMemory.code(),
@@ -34,7 +35,6 @@ pub(super) fn code_of(fault: &BytesFault, told: &mut Told) -> u32
             Outcome::AfterReplies.code()
         }
         BytesFault::Unfit(_) => Outcome::Unfit.code(),
-        BytesFault::NoForm => Outcome::NoForm.code(),
         BytesFault::LineFeedInHost => Outcome::LineFeedInHost.code(),
         BytesFault::BadName(number) => {
             told.at = *number;
@@ -48,6 +48,7 @@ pub(super) fn code_of_request(fault: RequestFault, told: &mut Told) -> u32
     ensures code { result ≡ code (of_request fault) }
     ensures told { told.new ≡ with_request_fault fault told.old }
     ensures other { IsOther result }
+    ensures form { result ≢ code Outcome.NoForm }
 {
     match fault {
         RequestFault::Incomplete => Outcome::RequestIncomplete.code(),
@@ -62,6 +63,7 @@ pub(super) fn code_of_request(fault: RequestFault, told: &mut Told) -> u32
 pub(super) fn code_of_reply(fault: Fault) -> u32
     ensures code { result ≡ code (of_reply fault) }
     ensures other { IsOther result }
+    ensures form { result ≢ code Outcome.NoForm }
 {
     match fault {
         Fault::Incomplete => Outcome::ReplyIncomplete.code(),

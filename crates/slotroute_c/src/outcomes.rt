@@ -109,18 +109,18 @@ fn message(number: u32) -> &'static str
 
 /// The length of the text of a code, as of `out of memory` for 1. The text is written if it fits.
 #[unsafe(no_mangle)]
-pub extern "C" fn slotroute_message(answer: u32, buffer: &mut [u8]) -> usize
+pub extern "C" fn slotroute_message(answer: u32, text: &mut [u8]) -> usize
     // The result is the length of the text.
     ensures len { result ≡ length (message answer) }
     // The text is written if it fits.
-    ensures text { length (message answer) ≤ length buffer.old
-        → IsWritten (message answer) buffer.old buffer.new }
+    ensures text { length (message answer) ≤ length text.old
+        → IsWritten (message answer) text.old text.new }
     // Otherwise nothing is written.
-    ensures too_small { length buffer.old < length (message answer) → buffer.new ≡ buffer.old }
+    ensures too_small { length text.old < length (message answer) → text.new ≡ text.old }
 {
-    let text = message(answer).as_bytes();
-    if text.len() <= buffer.len() {
-        put(buffer, text);
+    let said = message(answer).as_bytes();
+    if said.len() <= text.len() {
+        put(text, said);
     }
-    text.len()
+    said.len()
 }

@@ -112,8 +112,7 @@ fn slots_in(alloc: Global, routes: &[Route]) -> Result<Vec<u16>, AllocError>
 /// In this order: the codes of `slotroute_split` for the request. `ReplyIncomplete`,
 /// `ReplyMalformed`, `ReplyTooDeep` or `ReplyIsError` for the first reply that is no value, with
 /// its number in `told`. `AfterReplies` if bytes follow the last one. `Unfit` if the replies do not
-/// fit the command. `NoForm` if the one reply has no form. `TooSmall` if it does not fit.
-/// `NoMemory` if memory runs out.
+/// fit the command. `TooSmall` if the one reply does not fit. `NoMemory` if memory runs out.
 #[unsafe(no_mangle)]
 pub extern "C" fn slotroute_combine(
     alloc: Global,
@@ -136,6 +135,7 @@ pub extern "C" fn slotroute_combine(
         × FailsBy names.now
         (λ registered. IsUncombined (names_of [] registered) request.now replies.now) fault
         × (told.new ≡ with_fault fault told.old) }
+    ensures form { result ≢ code Outcome.NoForm }
     ensures unwritten { result ≢ code Outcome.Done → out.new ≡ out.old }
 {
     let reply = match one_reply(alloc, request, names, replies) {

@@ -148,9 +148,8 @@ fn tell_batches(batches: &BatchBytes, told: &mut Told)
 ///
 /// In this order: the codes of `slotroute_split_pipeline` for the requests. `ReplyIncomplete`,
 /// `ReplyMalformed` or `ReplyTooDeep` for the first reply that cannot be read, with its batch and
-/// number in `told`. `AfterReplies` if bytes follow the last one. `NoForm` if the reply to a
-/// request has no form, with its number in `told`. `TooSmall` if the replies do not fit. `NoMemory`
-/// if memory runs out.
+/// number in `told`. `AfterReplies` if bytes follow the last one. `TooSmall` if the replies do not
+/// fit. `NoMemory` if memory runs out.
 #[unsafe(no_mangle)]
 pub extern "C" fn slotroute_combine_pipeline(
     alloc: Global,
@@ -177,6 +176,7 @@ pub extern "C" fn slotroute_combine_pipeline(
         × FailsToPlan names.now (λ registered.
         PipelineIsUncombined registered numbers.now requests.now replies.now) fault
         × (told.new ≡ with_batch_fault fault told.old) }
+    ensures form { result ≢ code Outcome.NoForm }
     ensures unwritten { result ≢ code Outcome.Done → out.new ≡ out.old }
 {
     let registry = match registry_in(alloc, names) {
@@ -200,6 +200,7 @@ pub(super) fn code_of_batch(fault: &BatchFault, told: &mut Told) -> u32
     ensures code { result ≡ code (outcome_of_batch fault.now) }
     ensures told { told.new ≡ with_batch_fault fault.now told.old }
     ensures other { IsOther result }
+    ensures form { fault.now ≢ BatchFault.NoForm → result ≢ code Outcome.NoForm }
 {
     match fault {
         BatchFault::Memory => Outcome::NoMemory.code(),
@@ -225,9 +226,6 @@ pub(super) fn code_of_batch(fault: &BatchFault, told: &mut Told) -> u32
             told.at = *end;
             Outcome::AfterReplies.code()
         }
-        BatchFault::NoForm(number) => {
-            told.request = *number;
-            Outcome::NoForm.code()
-        }
+        BatchFault::NoForm => Outcome::NoForm.code(),
     }
 }

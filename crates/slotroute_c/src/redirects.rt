@@ -27,29 +27,29 @@ pub struct RedirectNumbers {
 }
 
 /// Reads the text of an error, as `MOVED 3999 127.0.0.1:6381`. Writes its host to `host`, and the
-/// rest to `told`. `answering` is the host of the node that sent the error, for a text without a
-/// host.
+/// rest to `redirected`. `answering` is the host of the node that sent the error, for a text without
+/// a host.
 ///
 /// # Errors
 ///
 /// `NotText` if the text or `answering` is not UTF-8. `NoRedirect` if the text is no redirect.
-/// `TooSmall` if the host does not fit: `told.host_len` is its length. `NoMemory` if memory runs
-/// out.
+/// `TooSmall` if the host does not fit: `redirected.host_len` is its length. `NoMemory` if memory
+/// runs out.
 #[unsafe(no_mangle)]
 pub extern "C" fn slotroute_redirect(
     alloc: Global,
     text: &[u8],
     answering: &[u8],
     host: &mut [u8],
-    told: &mut RedirectNumbers,
+    redirected: &mut RedirectNumbers,
 ) -> u32
     ensures done { result ≡ code Outcome.Done → (slot : ℕ) × (redirect : declared.Redirect)
         × IsRedirectText answering.now text.now slot redirect
-        × (told.new ≡ redirect_numbers slot redirect)
+        × (redirected.new ≡ redirect_numbers slot redirect)
         × IsWritten (redirect_address redirect).host host.old host.new }
     ensures too_small { result ≡ code Outcome.TooSmall → (slot : ℕ) × (redirect : declared.Redirect)
         × IsRedirectText answering.now text.now slot redirect
-        × (told.new ≡ redirect_numbers slot redirect)
+        × (redirected.new ≡ redirect_numbers slot redirect)
         × (length host.old < length (redirect_address redirect).host) }
     ensures no_redirect { result ≡ code Outcome.NoRedirect → IsNoRedirect answering.now text.now }
     ensures not_text { result ≡ code Outcome.NotText
@@ -60,7 +60,7 @@ pub extern "C" fn slotroute_redirect(
         ∷ Outcome.NotText ∷ Outcome.NoRedirect ∷ [])) }
     ensures unwritten { result ≢ code Outcome.Done → host.new ≡ host.old }
     ensures untold { result ≢ code Outcome.Done → result ≢ code Outcome.TooSmall
-        → told.new ≡ told.old }
+        → redirected.new ≡ redirected.old }
 {
     let Ok(text) = str::from_utf8(text) else {
         return Outcome::NotText.code();
@@ -69,7 +69,7 @@ pub extern "C" fn slotroute_redirect(
         return Outcome::NotText.code();
     };
     match Redirect::from_error_text(alloc, text, answering) {
-        Ok(Some((slot, redirect))) => tell(slot, &redirect, host, told).code(),
+        Ok(Some((slot, redirect))) => tell(slot, &redirect, host, redirected).code(),
         Ok(None) => Outcome::NoRedirect.code(),
         Err(_) => Outcome::NoMemory.code(),
     }

@@ -1,5 +1,6 @@
-ghost use Rattle.std.specs.Prelude.{◌≡◌, ◌≢◌, ◌<◌, ◌≤◌, ◌+◌, ◌++◌, ◌∷◌, [], ℕ, List, IsTrue, length};
-ghost use Rattle.resp.specs.Messages.{IsMessage, IsScanned, MessageCause, unscanned};
+ghost use Rattle.std.specs.Prelude.{◌⊎◌, ◌≡◌, ◌≢◌, ◌<◌, ◌≤◌, ◌+◌, ◌++◌, ◌∷◌, [], ℕ, List, IsTrue, drop, length, Err};
+ghost use Rattle.resp.specs.Messages.{head_at, IsKnown, IsMessage, IsScanned, MessageCause, unscanned};
+ghost use Rattle.resp.specs.Reading.{text_until_line_end};
 ghost use Rattle.resp.specs.declared.fault.Fault as replies;
 ghost use Rattle.slotroute_c.specs.Outcomes.{code, is_one_of, of_reply};
 
@@ -32,12 +33,21 @@ pub extern "C" fn slotroute_scan(bytes: &[u8], progress: &mut Progress) -> u32
     // The progress is right for these bytes, and whatever is appended to them.
     ensures kept { IsScanned progress.old bytes.now → result ≡ code Outcome.ReplyIncomplete
         → (more : List ℕ) → IsScanned progress.new (bytes.now ++ more) }
+    // No whole head stands after the bytes that were stepped over.
+    ensures onward { IsScanned progress.old bytes.now → result ≡ code Outcome.ReplyIncomplete
+        → head_at (drop progress.new.bytes bytes.now) ≡ Err replies.Fault.Incomplete }
+    // What is known of that head is not searched again.
+    ensures searched { IsScanned progress.old bytes.now → result ≡ code Outcome.ReplyIncomplete
+        → IsKnown (text_until_line_end (drop progress.new.bytes bytes.now)) progress.new.searched }
     ensures malformed { result ≡ code Outcome.ReplyMalformed → progress.new ≡ progress.old }
     ensures beyond { length bytes.now < progress.old.bytes + progress.old.searched
         → (result ≡ code Outcome.ReplyIncomplete) × (progress.new ≡ progress.old) }
-    // This holds for any progress.
+    // These hold for any progress.
     ensures within { result ≡ code Outcome.Done → (progress.new.bytes ≤ length bytes.now)
         × (progress.new ≡ record unscanned { bytes = progress.new.bytes }) }
+    ensures some { result ≡ code Outcome.Done → 0 < progress.new.bytes }
+    ensures inside { result ≡ code Outcome.ReplyIncomplete → (progress.new ≡ progress.old)
+        ⊎ (progress.new.bytes + progress.new.searched ≤ length bytes.now) }
     ensures no_other { IsTrue (is_one_of result (Outcome.Done ∷ Outcome.ReplyIncomplete
         ∷ Outcome.ReplyMalformed ∷ [])) }
 {

@@ -4,4 +4,3 @@ pub mod BatchReplaying
 pub mod Beside
 pub mod AnsweredSends
 pub mod Amid
-pub mod Threads

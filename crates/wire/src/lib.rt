@@ -4,7 +4,6 @@
 
 /// Connections whose log contracts see.
 pub mod connections;
-mod log;
 /// Connections over a transport, and their log.
 pub mod logged;
 /// What commands are thought to mean.

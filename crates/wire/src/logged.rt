@@ -4,10 +4,9 @@ ghost use Rattle.wire.specs.Logged.{batch_logged, command_logged, in_length};
 ghost use Rattle.wire.specs.Held.{batch_transport_in, transport_in};
 
 use crate::connections::{BatchWire, Wire};
-use crate::log::Log;
 use crate::transport::{BatchTransport, Transport};
 use cluster_slots::NodeAddress;
-use redis_cluster::driver::SendError;
+use redis_cluster::driver::{Log, SendError};
 use resp_core::{Cmd, ErrorKind, RedisError, Value};
 
 /// Connections over a transport, with a log that only proofs read: it takes no memory, and does

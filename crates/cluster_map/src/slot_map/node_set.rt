@@ -1,8 +1,9 @@
-ghost use Rattle.std.specs.Prelude.{◌≡◌, ◌++◌, ◌∷◌, [], not, if◌then◌else◌, IfOk, OnOk};
+ghost use Rattle.std.specs.Prelude.{◌≡◌, ◌↔◌, ◌<◌, ◌+◌, ◌/◌, ◌++◌, ◌∷◌, [], not, if◌then◌else◌, IfOk, OnOk, IsTrue};
 ghost use Rattle.std.specs.List.{list_any, position_or_len};
 ghost use Rattle.cluster_slots.specs.Address.{same_address};
 ghost use Rattle.cluster_map.specs.Targets.{addresses_behind};
-ghost use Rattle.cluster_map.specs.Inner.NodeSets.{addresses_counted};
+ghost use Rattle.cluster_map.specs.Inner.NodeSets.{addresses_counted, begun_with};
+ghost use Rattle.indexmap.specs.IndexSet.{hasher_of};
 
 use crate::slot_map::node_set::counted::Counted;
 use crate::slot_map::node_set::node_hasher::NodeHasher;
@@ -18,7 +19,7 @@ mod node_hasher;
 mod numbering;
 mod source;
 
-pub use numbering::number_nodes;
+pub use numbering::{number_nodes, number_nodes_counting};
 pub(crate) use source::Source;
 
 /// How often look-ups may compare nodes in vain before the quick hash counts as slow.
@@ -75,27 +76,10 @@ impl<'a, 'c, S: Source> NodeSet<'a, 'c, S> {
     {
         self.look_ups = self.look_ups.saturating_add(1);
         let (index, is_new) = self.nodes.insert_full(Counted::new(node, self.misses))?;
-        if self.is_slow() {
-            self.rehash()?;
+        if are_too_many(self.misses.get(), self.look_ups) && self.nodes.hasher().is_quick() {
+            rehash(&self.source, &mut self.nodes)?;
         }
         Ok((index, is_new))
-    }
-
-    /// Whether look-ups by the quick hash compare too many nodes in vain.
-    fn is_slow(&self) -> bool {
-        let most = FIRST_MISSES.saturating_add(self.look_ups / LOOK_UPS_A_MISS);
-        self.misses.get() > most && self.nodes.hasher().is_quick()
-    }
-
-    /// Finds the nodes by the hash that depends on all of them from now on.
-    fn rehash(&mut self) -> Result<(), AllocError>
-        ensures { OnOk result (self.new ≡ self.old) }
-    {
-        let (alloc, len) = (*self.nodes.allocator(), self.nodes.len());
-        let hasher = NodeHasher::after_all(&self.source);
-        let nodes = IndexSet::with_capacity_and_hasher(alloc, len, hasher)?;
-        let mut quick = replace(&mut self.nodes, nodes);
-        self.nodes.append(&mut quick)
     }
 
     /// The nodes, in order of first appearance.
@@ -104,6 +88,28 @@ impl<'a, 'c, S: Source> NodeSet<'a, 'c, S> {
     {
         nodes_of(&self.nodes)
     }
+}
+
+/// Whether so many nodes that look-ups compared in vain are too many for the quick hash.
+fn are_too_many(misses: usize, look_ups: usize) -> bool
+    ensures { IsTrue result ↔ (16 + look_ups / 16 < misses) }
+{
+    misses > FIRST_MISSES + look_ups / LOOK_UPS_A_MISS
+}
+
+/// Finds the nodes by the hash that begins with all nodes of their source from now on.
+fn rehash<'a, 'c, S: Source>(
+    source: &S,
+    nodes: &mut IndexSet<Counted<'a, 'c>, NodeHasher>,
+) -> Result<(), AllocError>
+    ensures nodes { OnOk result (nodes.new.keys ≡ nodes.old.keys) }
+    ensures hash { OnOk result (hasher_of nodes.new ≡ begun_with (S.nodes source.now)) }
+{
+    let (alloc, len) = (*nodes.allocator(), nodes.len());
+    let hasher = NodeHasher::after_all(source);
+    let found = IndexSet::with_capacity_and_hasher(alloc, len, hasher)?;
+    let mut quick = replace(nodes, found);
+    nodes.append(&mut quick)
 }
 
 /// The nodes that are counted.

@@ -1,3 +1,7 @@
+ghost use Rattle.std.specs.Prelude.{◌≡◌};
+ghost use Rattle.std.specs.Hash.FoldHasher as folding;
+ghost use Rattle.cluster_map.specs.Inner.NodeSets.{begun_with, is_quick};
+
 use crate::slot_map::node_set::source::Source;
 use std::hash::{BuildHasher, DefaultHasher, FoldHasher, Hasher};
 
@@ -12,17 +16,23 @@ pub(crate) enum NodeHasher {
 
 impl NodeHasher {
     /// The quick hash.
-    pub(crate) fn quick() -> Self {
+    pub(crate) fn quick() -> Self
+        ensures { result ≡ NodeHasher.Fold folding.initial }
+    {
         NodeHasher::Fold(FoldHasher::default())
     }
 
     /// Whether this is the quick hash.
-    pub(crate) fn is_quick(&self) -> bool {
+    pub(crate) fn is_quick(&self) -> bool
+        ensures { result ≡ is_quick self.now }
+    {
         matches!(self, NodeHasher::Fold(_))
     }
 
     /// The hash that begins with all nodes of a source.
-    pub(crate) fn after_all(source: &impl Source) -> Self {
+    pub(crate) fn after_all<S: Source>(source: &S) -> Self
+        ensures { result ≡ begun_with (S.nodes source.now) }
+    {
         let mut start = DefaultHasher::new();
         source.write_to(&mut start);
         NodeHasher::Sip(start)

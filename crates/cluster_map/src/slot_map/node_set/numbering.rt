@@ -26,10 +26,28 @@ pub fn number_nodes<'a>(
     ensures numbered { IfOk result (λ found. AreNumbered (addresses_behind nodes.now)
         (addresses_behind found.0.items) found.1.items) }
 {
+    number_nodes_counting(alloc, nodes, &Cell::new(0))
+}
+
+/// `number_nodes`, which adds to `misses` how many nodes it compares in vain when more than a few
+/// nodes of a long list differ: at most some 16 and one for each 16 nodes, also if the hosts are
+/// picked, as far as SipHash spreads them.
+///
+/// # Errors
+///
+/// If memory runs out.
+pub fn number_nodes_counting<'a>(
+    alloc: Global,
+    nodes: &[&'a NodeAddress],
+    misses: &Cell<usize>,
+) -> Result<(Vec<&'a NodeAddress>, Vec<usize>), AllocError>
+    ensures numbered { IfOk result (λ found. AreNumbered (addresses_behind nodes.now)
+        (addresses_behind found.0.items) found.1.items) }
+{
     let mut numbers = Vec::with_capacity(alloc, nodes.len())?;
     let found = match number_few(alloc, nodes, &mut numbers)? {
         Some(few) => few,
-        None => number_many(alloc, nodes, &mut numbers)?,
+        None => number_many(alloc, nodes, &mut numbers, misses)?,
     };
     Ok((found, numbers))
 }
@@ -75,12 +93,12 @@ fn number_many<'a>(
     alloc: Global,
     nodes: &[&'a NodeAddress],
     numbers: &mut Vec<usize>,
+    misses: &Cell<usize>,
 ) -> Result<Vec<&'a NodeAddress>, AllocError>
     ensures numbered { IfOk result (λ found. AreNumbered (addresses_behind nodes.now)
         (addresses_behind found.items) numbers.new.items) }
 {
-    let misses = Cell::new(0);
-    let mut seen = NodeSet::new(alloc, nodes, &misses)?;
+    let mut seen = NodeSet::new(alloc, nodes, misses)?;
     numbers.clear();
     for node in nodes {
         let (number, _) = seen.insert_full(*node)?;

@@ -5,6 +5,8 @@ use Rattle.std.proofs.lemmas.Option.{get_or_from_slice_get}
 use Rattle.redis_batches.specs.Batched.{put_at}
 use Rattle.redis_batch_bytes.proofs.Batchwise.{all_told, none_so_far, one_batch_more}
 use Rattle.redis_batch_bytes.proofs.Lists.{own_list}
+use Rattle.redis_batch_bytes.proofs.Writable.{AreWritable, answers_put, nils_writable}
+use Rattle.resp_core.specs.Answer.{answer_of}
 use Rattle.redis_batch_bytes.proofs.answers.answers_in.Goals as goal
 use Rattle.redis_batch_bytes.proofs.answers.answers_in.Goals.{In_ok-given}
 
@@ -22,6 +24,7 @@ pub loop-batch-init : goal.loop-batch-init
 loop-batch-init c = record {
   room = c.in_ok-answers.ensures.room;
   so_far = none_so_far (map (λ v. v.items) c.args.places.now) c.in_ok-answers.answers.items c.args.bytes.now;
+  form = subst (λ l. AreWritable (map answer_of l)) (sym c.in_ok-answers.ensures.nil) (nils_writable c.args.count);
 }
 
 pub put_answers-requires-clause-within : goal.put_answers-requires-clause-within
@@ -41,6 +44,7 @@ loop-batch-preserved c =
       room = c.put_answers.ensures.len ∙ c.loop-batch.invariant.room;
       so_far = one_batch_more lists old c.put_answers.new.out.items given i c.args.bytes.now c.loop-batch.rest.now c.in_ok-given.after.now own.items c.loop-batch.invariant.so_far found.1 (within (goal.at.loop-batch-preserved c).In_ok-given) long
           (c.put_answers.ensures.put ∙ ap (λ ps. put_at old ps given) c.deref.ensures.value) c.in_ok-given.ensures.found;
+      form = subst (λ l. AreWritable (map answer_of l)) (sym (c.put_answers.ensures.put ∙ ap (λ ps. put_at old ps given) c.deref.ensures.value)) (answers_put old given own.items c.loop-batch.invariant.form c.in_ok-given.ensures.form);
     }
 
 pub returns-clause-told : goal.returns-clause-told

@@ -1,6 +1,5 @@
 use Rattle.std.proofs.Common.{arith}
 use Rattle.std.proofs.lemmas.Grind.{common_steps}
-use Rattle.resp.specs.declared.fault.RequestError.TheVariants as errors
 use Rattle.redis_batch_bytes.proofs.requests.request_at.Goals as goal
 
 pub returns-in-Err-Fault-Incomplete-clause-fault : goal.returns-in-Err-Fault-Incomplete-clause-fault

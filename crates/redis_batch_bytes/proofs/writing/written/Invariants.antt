@@ -5,5 +5,5 @@ use Rattle.redis_batch_bytes.specs.Told.{answer_form}
 use Rattle.redis_batch_bytes.proofs.writing.written.Given as goal
 
 -- the replies so far
-abbrev pub invariant-loop-number : goal.invariant-loop-number
-invariant-loop-number l = l.bytes.items ≡ flat_map answer_form (map answer_of (take l.number l.replies))
+abbrev pub invariant-loop-reply : goal.invariant-loop-reply
+invariant-loop-reply l = l.bytes.items ≡ flat_map answer_form (map answer_of (take l.reply-index l.replies))

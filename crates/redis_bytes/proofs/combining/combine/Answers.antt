@@ -1,4 +1,4 @@
-use Rattle.std.proofs.Common.{◌≡◌, List, ℕ, Some, None, map, option_map, sym, ap, subst, ◌∙◌, inl}
+use Rattle.std.proofs.Common.{◌≡◌, List, ℕ, Some, None, map, option_map, sym, ap, subst, ◌∙◌}
 use Rattle.std.proofs.lemmas.Option.{none-some}
 use Rattle.std.proofs.lemmas.Result.{err_from_is_err_and}
 use Rattle.redis_routing.specs.Names.{names_in}
@@ -13,7 +13,7 @@ use Rattle.redis_cluster.proofs.Constructors.{of_some}
 pub returns-in_err-command-clause-unsplit : goal.returns-in_err-command-clause-unsplit
 returns-in_err-command-clause-unsplit c = λ split reply_form results parts is answered are.
     let p = err_from_is_err_and c.from_residual.result c.from_residual.ensures.1 in
-    rw (p.1, p.2) (inl (c.in_err-command.ensures.only is.words is.is))
+    rw (p.1, p.2) (c.in_err-command.ensures.only is.words is.is)
 
 pub returns-in_default-clause-unsplit : goal.returns-in_default-clause-unsplit
 returns-in_default-clause-unsplit c = λ split reply_form results parts is answered are.

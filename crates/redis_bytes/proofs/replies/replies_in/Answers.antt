@@ -3,7 +3,7 @@ use Rattle.std.proofs.lemmas.List.{length-append, length-map, map_push}
 use Rattle.std.proofs.lemmas.Result.{err_from_is_err_and}
 use Rattle.resp_core.specs.View.{view}
 use Rattle.resp_core.specs.declared.value.Value.{Value}
-use Rattle.redis_bytes.proofs.Sequence.{Stand, Only, one_more_stands, only_more, only_fails, unread}
+use Rattle.redis_bytes.proofs.Sequence.{Stand, Only, one_more_stands, only_more, only_fails, stand_writable, unread}
 use Rattle.redis_bytes.proofs.replies.replies_in.Goals as goal
 
 pub returns-in_err-value-clause-only : goal.returns-in_err-value-clause-only
@@ -36,3 +36,6 @@ loop-number-preserved c =
       stand = subst (Stand bytes after) (sym items) (one_more_stands bytes rest after found.0 (map view values) (view value) c.loop-number.invariant.stand found.1 found.2);
       only = subst (Only c.args.count bytes after) (sym items) (only_more c.args.count bytes rest after (map view values) (view value) c.loop-number.invariant.only few c.in_ok-value.ensures.only);
     }
+
+pub returns-clause-form : goal.returns-clause-form
+returns-clause-form c = stand_writable c.args.bytes.now c.loop-number.rest.now (map view c.loop-number.values.items) (omega arith) c.loop-number.invariant.stand

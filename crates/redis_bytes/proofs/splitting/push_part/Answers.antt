@@ -6,8 +6,8 @@ use Rattle.redis_routing.specs.SubCommand.{sub_command_after}
 use Rattle.redis_routing.proofs.Picks.{route_sub_command}
 use Rattle.redis_bytes.proofs.splitting.push_part.Goals as goal
 
-pub returns : goal.returns
-returns c =
+pub returns-clause-part : goal.returns-clause-part
+returns-clause-part c =
     let args = map Some c.args.command.now in
     let route = c.index-routes-number.result in
     let whole = route_sub_command c.args.split.now c.routes.ensures.split c.routes.result.now c.args.number route c.routes.ensures.routes c.requires.within c.index-routes-number.is in
@@ -16,4 +16,4 @@ returns c =
     ap (λ (w : ℕ). sub_command_after w args c.deref.result.now) c.name_words.ensures
     ∙ ap (sub_command_after (name_words_of args) args) (c.deref.ensures.value ∙ ap (λ r. r.1.items) (sym c.index-routes-number.is))
     ∙ ap (λ (a : Arguments). sub_command_after (name_words_of a) a route.1.items) (sym c.requires.command) ∙ whole.1 in
-    on_ok_weaker c.push_args.result (λ written. (part, whole.2, written part asked)) c.push_args.ensures
+    on_ok_weaker c.push_args.result (λ written. (part, whole.2, written part asked)) c.push_args.ensures.part

@@ -18,5 +18,5 @@ loop-value-preserved c =
           ∙ c.loop-value.invariant.2 q,
     )
 
-pub returns-then-not-branch-clause-totals : goal.returns-then-not-branch-clause-totals
-returns-then-not-branch-clause-totals c q = let left = c.loop-value.invariant.2 q in let none = c.in_ok-add_pairs.ensures q in grind (arith, common_steps)
+pub returns-then-not-branch : goal.returns-then-not-branch
+returns-then-not-branch c q = let left = c.loop-value.invariant.2 q in let none = c.in_ok-add_pairs.ensures q in grind (arith, common_steps)

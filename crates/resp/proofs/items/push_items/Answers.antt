@@ -1,9 +1,9 @@
-use Rattle.std.proofs.Common.{◌≡◌, ◌+◌, ◌<◌, ◌^◌, ◌++◌, ◌∷◌, [], ℕ, List, Bor, length, map, drop, get_or, sym, ap, ◌∙◌, append_assoc, arith}
+use Rattle.std.proofs.Common.{◌≡◌, ◌+◌, ◌<◌, ◌^◌, ◌++◌, ◌∷◌, [], ℕ, List, Bor, length, map, drop, get_or, sym, ap, ◌∙◌, append-nil, append_assoc, arith}
 use Rattle.std.proofs.lemmas.List.{drop_all, length-append, map_push}
 use Rattle.resp_core.specs.Reply.{nil, replies_of}
 use Rattle.resp.specs.Forms.{form, forms}
 use Rattle.resp.proofs.RequestGrammar.{line_front}
-use Rattle.resp.proofs.ArrayItems.{all_push, array_has_form, found_array, front_more, has_line, item_at, next_item, only_line, own_bytes}
+use Rattle.resp.proofs.ArrayItems.{all_push, array_has_form, found_array, front_more, has_line, item_at, next_item, only_line, own_bytes, stand_after}
 use Rattle.resp.proofs.items.push_items.Goals as goal
 
 pub returns-in_default-clause-only : goal.returns-in_default-clause-only
@@ -60,3 +60,22 @@ returns-clause-only c = λ values rest are same.
     let line = only_line values c.args.bytes.now rest are same short c.in-Ok.count c.in-Ok.first.now c.in-Ok.ensures in
     c.loop.invariant.only values rest are line.0 line.1
     ∙ ap (λ vs. forms (replies_of vs) ++ rest) (drop_all c.loop.counter values (omega (arith, c.loop-test.false, line.0)))
+
+pub returns-in_default-clause-before : goal.returns-in_default-clause-before
+returns-in_default-clause-before c =
+    ([], tt, (c.args.bytes.now, [], sym (append-nil c.args.bytes.now)), sym (append-nil _))
+
+pub returns-in_default-after_item-clause-before : goal.returns-in_default-after_item-clause-before
+returns-in_default-after_item-clause-before c =
+    let l = c.loop.invariant in
+    (l.values, l.are, stand_after c.args.bytes.now c.in-Ok.first.now c.loop.rest.now c.in-Ok.count l.values c.in-Ok.ensures l.front, l.pushed)
+
+pub returns-in_err-push-clause-before : goal.returns-in_err-push-clause-before
+returns-in_err-push-clause-before c =
+    let l = c.loop.invariant in
+    (l.values, l.are, stand_after c.args.bytes.now c.in-Ok.first.now c.loop.rest.now c.in-Ok.count l.values c.in-Ok.ensures l.front, ap (map (λ (item : Bor (List ℕ)). item.now)) c.in_err-push.ensures.items ∙ l.pushed)
+
+pub returns-clause-before : goal.returns-clause-before
+returns-clause-before c =
+    let l = c.loop.invariant in
+    (l.values, l.are, stand_after c.args.bytes.now c.in-Ok.first.now c.loop.rest.now c.in-Ok.count l.values c.in-Ok.ensures l.front, l.pushed)

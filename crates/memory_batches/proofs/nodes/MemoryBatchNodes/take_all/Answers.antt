@@ -41,6 +41,7 @@ loop-cmd-preserved c =
       as_planned = planned_next first between new c.args.node.now cmd.now so_far.plan so_far.base so_far.as_planned c.in_ok-answer.ensures.noted;
       plan = c.in_ok-answer.ensures.plan ∙ so_far.plan;
       base = c.in_ok-answer.ensures.base ∙ so_far.base;
+      sends = c.in_ok-answer.ensures.sends ∙ so_far.sends;
       registered = c.in_ok-answer.ensures.registered ∙ so_far.registered;
     }
 

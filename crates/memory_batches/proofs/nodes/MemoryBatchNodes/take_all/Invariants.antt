@@ -14,5 +14,6 @@ invariant-loop-cmd l = record {
   as_planned : AreAsPlanned l.fn.self l.self;
   plan : l.self.plan ≡ l.fn.self.plan;
   base : l.self.base ≡ l.fn.self.base;
+  sends : l.self.sends ≡ l.fn.self.sends;
   registered : batch_registered l.self ≡ batch_registered l.fn.self;
 }

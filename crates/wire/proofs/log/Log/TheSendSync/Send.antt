@@ -1,8 +1,0 @@
--- A log owns nothing, so it may go to another thread.
-use denote.RattleType.{RattleType}
-use denote.Param.Send.{IsSend}
-use Rattle.wire.proofs.Threads.{log_send}
-use Rattle.wire.specs.contracts.log.Log.{the_row}
-
-pub send : (A B C : RattleType) → IsSend A → IsSend B → IsSend C → IsSend (the_row A B C)
-send A B C a b c = log_send A B C
