@@ -3,8 +3,9 @@ pub mod answers;
 mod planned;
 
 use crate::batches::answers::{Answers, answers_text, replies_text};
-use cluster_map::NodeAddress;
-use fixtures::{Cluster, cmds, number, numbers, okay, or_text, two};
+use crate::traces::batches_text;
+use cluster_map::{NodeAddress, ReadRoutingStrategy};
+use fixtures::{Cluster, cmds, lines, number, numbers, okay, or_text, plain, two};
 use memory_batches::MemoryBatchNodes;
 use redis_batches::{BatchNodes, PipelineError, drive_pipeline, drive_pipeline_retrying};
 use resp_core::{Cmd, ErrorKind, RedisError, RedisResult};
@@ -32,8 +33,10 @@ pub fn call(batches: &mut Batches, alloc: Global, name: &str, words: &str) -> Re
     match name {
         "nodes" => start(batches, alloc, words),
         "only-read" => batches.cluster.set_read_only(alloc, words),
+        "strategy" => batches.cluster.set_strategy(alloc, words),
         "asked" => batches.cluster.asked(alloc),
         "refuse" => refuse(alloc, &mut batches.nodes, words),
+        "sent" => batches_text(alloc, batches.nodes.trace()),
         "batch" => batch(alloc, &mut batches.nodes, words),
         "drive" => drive(alloc, batches, words),
         "retrying" => retrying(alloc, batches, words),
@@ -47,18 +50,28 @@ fn start(batches: &mut Batches, alloc: Global, text: &str) -> RedisResult<String
     batches.cluster.set_map(alloc, text)
 }
 
-/// The error of a node that the slot of `a` has left.
-fn moved() -> RedisError {
-    RedisError::from((ErrorKind::Client, "MOVED 15495 node-3.example.org:3"))
-}
-
-/// Nodes refuse the command with this number, counted from now on.
-fn refuse(alloc: Global, nodes: &mut MemoryBatchNodes, word: &str) -> RedisResult<String> {
-    let mut plan = Vec::new(alloc);
-    for _ in 0..number(word)? {
+/// Plans that the command of this number is refused with the error of this text.
+fn push_refusal(
+    alloc: Global,
+    plan: &mut Vec<Option<RedisError>>,
+    number: usize,
+    text: &str,
+) -> RedisResult<()> {
+    for _ in plan.len()..number {
         plan.push(None)?;
     }
-    plan.push(Some(moved()))?;
+    plan.push(Some(RedisError::from((ErrorKind::Client, "", plain(alloc, text)?))))?;
+    Ok(())
+}
+
+/// Nodes refuse the commands of these numbers, in ascending order, counted from now on, each with
+/// an error.
+fn refuse(alloc: Global, nodes: &mut MemoryBatchNodes, words: &str) -> RedisResult<String> {
+    let mut plan = Vec::new(alloc);
+    for refusal in &lines(alloc, words)? {
+        let (word, text) = two(refusal);
+        push_refusal(alloc, &mut plan, number(word)?, text)?;
+    }
     nodes.plan(plan);
     okay(alloc)
 }
@@ -90,12 +103,16 @@ fn driven(
     commands: &[Cmd],
     order: &[usize],
 ) -> Result<Answers, PipelineError> {
+    let strategy: Option<&dyn ReadRoutingStrategy> = match &rows.cluster.strategy {
+        Some(strategy) => Some(strategy),
+        None => None,
+    };
     drive_pipeline(
         alloc,
         commands,
         &rows.cluster.read_only,
         &rows.cluster.map,
-        Some(&rows.cluster.turns),
+        strategy,
         order,
         &mut rows.nodes,
     )
@@ -109,11 +126,12 @@ fn drive(alloc: Global, rows: &mut Batches, words: &str) -> RedisResult<String> 
     replies_text(alloc, &driven(alloc, rows, &commands, &order))
 }
 
-/// The replies if refused parts are sent again, in two rounds.
+/// The replies if redirected parts are sent again, in this many rounds.
 fn driven_again(
     alloc: Global,
     rows: &mut Batches,
     commands: &[Cmd],
+    rounds: usize,
     order: &[usize],
 ) -> Result<Answers, PipelineError> {
     drive_pipeline_retrying(
@@ -123,14 +141,16 @@ fn driven_again(
         &rows.cluster.map,
         None,
         order,
-        2,
+        rounds,
         &mut rows.nodes,
     )
 }
 
 fn retrying(alloc: Global, rows: &mut Batches, words: &str) -> RedisResult<String> {
-    let (order, commands) = two(words);
+    let (rounds, rest) = two(words);
+    let (order, commands) = two(rest);
+    let rounds = number(rounds)?;
     let order = numbers(alloc, order)?;
     let commands = cmds(alloc, commands)?;
-    replies_text(alloc, &driven_again(alloc, rows, &commands, &order))
+    replies_text(alloc, &driven_again(alloc, rows, &commands, rounds, &order))
 }

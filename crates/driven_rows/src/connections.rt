@@ -8,7 +8,8 @@ use resp_core::{Cmd, ErrorKind, RedisError, RedisResult, Value};
 use std::alloc::Global;
 use wire::{Any, BatchClient, BatchTransport, Logged, SendError, Transport, WireNodes, drive_over};
 
-/// Connections that return these values, the last one first, whatever is sent. They have no contract.
+/// Connections that return these values, the last one first, whatever is sent. In place of a simple
+/// string the reply is lost. They have no contract.
 #[derive(Drop)]
 struct Script {
     alloc: Global,
@@ -17,11 +18,18 @@ struct Script {
     sent: usize,
 }
 
+fn outcome(value: Value) -> Result<Value, SendError> {
+    if let Value::SimpleString(_) = &value {
+        return Err(SendError::Lost(RedisError::from((ErrorKind::Client, "no reply"))));
+    }
+    Ok(value)
+}
+
 impl Transport for Script {
     fn exchange(&mut self, _node: &NodeAddress, _cmd: &Cmd) -> Result<Value, SendError> {
         self.sent = self.sent.saturating_add(1);
         match self.values.pop() {
-            Some(value) => Ok(value),
+            Some(value) => outcome(value),
             None => Err(SendError::Memory),
         }
     }
@@ -34,7 +42,7 @@ impl BatchTransport for Script {
             let Some(value) = self.values.pop() else {
                 return Err(SendError::Refused(RedisError::from((ErrorKind::Client, "no value"))));
             };
-            if answers.push(Ok(value)).is_err() {
+            if answers.push(Ok(outcome(value)?)).is_err() {
                 return Err(SendError::Memory);
             }
         }

@@ -8,6 +8,7 @@ mod driving;
 mod faults;
 mod plans;
 mod serving;
+mod traces;
 
 use crate::batches::Batches;
 use crate::driving::Driven;
@@ -27,7 +28,7 @@ impl Calls for Rows {
     fn call(&mut self, alloc: Global, topic: &str, name: &str, words: &str) -> RedisResult<String> {
         match topic {
             "drive" => driving::call(&mut self.driven, alloc, name, words),
-            "plans" => plans::call(&self.driven, alloc, name, words),
+            "plans" => plans::call(&mut self.driven, alloc, name, words),
             "batches" => batches::call(&mut self.batches, alloc, name, words),
             "connections" => connections::call(&self.batches.cluster.map, alloc, name, words),
             "serve" => serving::call(alloc, name, words),

@@ -1,30 +1,21 @@
-//! Plans and retries of a client with connections of its own.
+//! Plans of a client with connections of its own.
+mod retries;
+
 use crate::driving::Driven;
-use cluster_map::{Route, SlotAddr};
 use fixtures::{bad_row, cmd, cut, number, numbers, or_text, shown, two, value_text, values};
-use redis_cluster::driver::{Nodes, Retry, SplitPlan, names_once};
+use redis_cluster::driver::{Nodes, SplitPlan, names_once};
 use redis_cluster::routing::Names;
 use resp_core::{Cmd, RedisResult, Value};
 use std::alloc::Global;
 
-/// What a call of this name returns, with the map of the rows of `drive`.
-pub fn call(driven: &Driven, alloc: Global, name: &str, words: &str) -> RedisResult<String> {
+/// What a call of this name returns. The cluster is that of the rows of `drive`.
+pub fn call(driven: &mut Driven, alloc: Global, name: &str, words: &str) -> RedisResult<String> {
     match name {
-        "target" => target(alloc, driven, words),
+        "map" => driven.cluster.set_map(alloc, words),
+        "retry" => retries::retry(alloc, &driven.cluster.map, words),
         "combine" => combine(alloc, driven, words),
         "once" => once(alloc, words),
         _ => Err(bad_row("no call of this name")),
-    }
-}
-
-/// The first target of a read of a slot with this many retries, and how many are left.
-fn target(alloc: Global, driven: &Driven, words: &str) -> RedisResult<String> {
-    let (slot, retries) = two(words);
-    let (slot, retries) = (number(slot)?, number(retries)?);
-    let route = Route::new(slot, SlotAddr::ReplicaOptional);
-    match Retry::new(alloc, &driven.cluster.map, route, None, 0, retries)? {
-        Some(retry) => Ok(format!(in alloc; "{:?}, {} left", retry.target(), retry.left())?),
-        None => Err(bad_row("no node has the slot")),
     }
 }
 

@@ -1,6 +1,6 @@
 //! Runs of the program, over streams in memory.
 use cluster_map::ReadRoutingStrategy;
-use fixtures::{Turns, bad_row, bytes, cut, pieces, text};
+use fixtures::{Strategy, bad_row, bytes, cut, pieces, text};
 use resp_core::RedisResult;
 use slotroute_serve::serve;
 use std::alloc::Global;
@@ -27,18 +27,25 @@ impl Write for Interrupted<'_> {
     }
 }
 
-/// What a run of this name writes.
+/// What a run of this name writes. Another name is that of a strategy, which is passed.
 pub fn call(alloc: Global, name: &str, row: &str) -> RedisResult<String> {
     // With room, so that a short output does not fail for memory.
     let mut out = Vec::with_capacity(alloc, 1000)?;
     let told = match name {
         "run" => run(alloc, row, &mut out, None)?,
-        "turns" => run(alloc, row, &mut out, Some(Box::new(alloc, Turns::new())?))?,
         "interrupted" => run_interrupted(alloc, row, &mut out)?,
-        _ => return Err(bad_row("no call of this name")),
+        _ => run_by(alloc, name, row, &mut out)?,
     };
     let out = String::from_utf8_lossy(alloc, &out)?;
     Ok(format!(in alloc; "{out:?} {told}")?)
+}
+
+/// A run to which a strategy is passed.
+fn run_by(alloc: Global, strategy: &str, row: &str, out: &mut Vec<u8>) -> RedisResult<String> {
+    let Some(strategy) = Strategy::new(strategy)? else {
+        return Err(bad_row("no strategy"));
+    };
+    run(alloc, row, out, Some(Box::new(alloc, strategy)?))
 }
 
 fn run_interrupted(alloc: Global, row: &str, taken: &mut Vec<u8>) -> RedisResult<String> {

@@ -6,13 +6,16 @@ mod addresses;
 mod commands;
 mod faults;
 mod maps;
+mod picked;
 mod plans;
 mod ranges;
+mod reads;
 mod routing;
+mod slots;
 
 use crate::routing::{Known, combiners, pipelines};
-use cluster_map::{Slot, SlotMap};
-use fixtures::{Calls, bad_row, bytes, run, shown};
+use cluster_map::SlotMap;
+use fixtures::{Calls, bad_row, debug, run};
 use redis_cluster::pipeline::{ClusterPipeline, cluster_pipe};
 use resp_core::RedisResult;
 use std::alloc::Global;
@@ -26,12 +29,19 @@ struct Rows {
     pipeline: ClusterPipeline,
 }
 
-impl Calls for Rows {
-    fn call(&mut self, alloc: Global, topic: &str, name: &str, words: &str) -> RedisResult<String> {
+impl Rows {
+    /// What a call of this name returns, below the heading of this topic.
+    fn answer(
+        &mut self,
+        alloc: Global,
+        topic: &str,
+        name: &str,
+        words: &str,
+    ) -> RedisResult<String> {
         match topic {
             "commands" => commands::call(alloc, name, words),
             "faults" => faults::call(alloc, name),
-            "slots" => shown(alloc, &Slot::for_key(&bytes(alloc, words)?).number()),
+            "slots" => slots::call(alloc, name, words),
             "addresses" => addresses::call(alloc, name, words),
             "ranges" => ranges::call(alloc, name, words),
             "maps" => maps::call(&mut self.map, alloc, name, words),
@@ -41,6 +51,23 @@ impl Calls for Rows {
             "plans" => plans::call(&self.map, alloc, name, words),
             _ => Err(bad_row("no topic of this name")),
         }
+    }
+}
+
+impl Calls for Rows {
+    fn call(&mut self, alloc: Global, topic: &str, name: &str, words: &str) -> RedisResult<String> {
+        match name.strip_suffix('?') {
+            Some(name) => kind(alloc, self.answer(alloc, topic, name, words)),
+            None => self.answer(alloc, topic, name, words),
+        }
+    }
+}
+
+/// The kind of the error that a call returned, or what else it returned.
+fn kind(alloc: Global, given: RedisResult<String>) -> RedisResult<String> {
+    match given {
+        Ok(answer) => Ok(answer),
+        Err(error) => debug(alloc, &error.kind()),
     }
 }
 

@@ -1,8 +1,12 @@
 //! The map of a cluster, and its shards.
-use cluster_map::{ClusterTopology, Route, Shard, SlotAddr, SlotMap, parse_slots, slot_cmd};
+mod picks;
+mod shards;
+
+use crate::picked::are_few_in_vain;
+use cluster_map::{Route, SlotMap, parse_slots, slot_cmd};
 use fixtures::{
-    Turns, bad_row, cmd_text, debug, equality, lines, map, number, okay, push_next, ranges,
-    slot_addr, two, value,
+    Turns, bad_row, cmd_text, debug, equality, lines, map, number, okay, ranges, slot_addr, two,
+    value,
 };
 use resp_core::RedisResult;
 use std::alloc::Global;
@@ -25,13 +29,12 @@ fn ask(slots: &SlotMap, alloc: Global, name: &str, words: &str) -> RedisResult<S
         "default" => debug(alloc, &SlotMap::default(alloc)),
         "node" => node(alloc, slots, words),
         "nodes" => nodes(alloc, slots, words),
-        "fallback" => debug(
-            alloc,
-            &slots.shard_fallback_addrs(alloc, read_of(number(words)?))?,
-        ),
+        "picked" | "told" => picks::picked(alloc, slots, words, name == "told"),
+        "fallback" => debug(alloc, &slots.shard_fallback_addrs(alloc, route_of(words)?)?),
         "primaries" => debug(alloc, &slots.addresses_for_all_primaries(alloc)?),
         "all_nodes" => debug(alloc, &slots.addresses_for_all_nodes(alloc)?),
-        "topology" => primaries(alloc, &slots.topology(alloc)?),
+        "topology" => shards::listed(alloc, &slots.topology(alloc)?),
+        "shard" => shards::at(alloc, &slots.topology(alloc)?, number(words)?),
         _ => make(alloc, name, words),
     }
 }
@@ -40,10 +43,10 @@ fn ask(slots: &SlotMap, alloc: Global, name: &str, words: &str) -> RedisResult<S
 fn make(alloc: Global, name: &str, words: &str) -> RedisResult<String> {
     match name {
         "parsed" => parsed(alloc, words),
-        "shards" => primaries(alloc, &topology_of(alloc, words)?),
-        "copied_shards" => primaries(alloc, &topology_of(alloc, words)?.clone()?),
+        "shards" | "copied_shards" | "shard_of" => shards::call(alloc, name, words),
         "copied_ranges" => equality(alloc, &ranges(alloc, words)?),
         "slots_command" => cmd_text(alloc, &slot_cmd(alloc)?),
+        "few_in_vain" => are_few_in_vain(alloc, words),
         _ => Err(bad_row("no call of this name")),
     }
 }
@@ -62,10 +65,6 @@ fn map_of_reply(alloc: Global, words: &str) -> RedisResult<SlotMap> {
     SlotMap::from_reply(alloc, &value(alloc, reply)?, answering)
 }
 
-fn read_of(slot: u16) -> Route {
-    Route::new(slot, SlotAddr::ReplicaOptional)
-}
-
 /// The route of a text: a slot, and which of its nodes.
 fn route_of(words: &str) -> RedisResult<Route> {
     let (slot, addr) = two(words);
@@ -80,7 +79,7 @@ fn node(alloc: Global, slots: &SlotMap, words: &str) -> RedisResult<String> {
 }
 
 /// The routes of a text, a semicolon and a space apart, each with no index.
-fn routes_of(alloc: Global, words: &str) -> RedisResult<Vec<(Route, Vec<usize>)>> {
+pub fn routes_of(alloc: Global, words: &str) -> RedisResult<Vec<(Route, Vec<usize>)>> {
     let mut routes = Vec::new(alloc);
     for line in &lines(alloc, words)? {
         routes.push((route_of(line)?, Vec::new(alloc)))?;
@@ -94,23 +93,4 @@ fn nodes(alloc: Global, slots: &SlotMap, words: &str) -> RedisResult<String> {
     let turns = Turns::new();
     let nodes = slots.addresses_for_multi_slot(alloc, &routes, Some(&turns), 0)?;
     Ok(format!(in alloc; "{nodes:?}, asked {}", turns.asked())?)
-}
-
-/// The topology of shards of one range each.
-fn topology_of(alloc: Global, words: &str) -> RedisResult<ClusterTopology> {
-    let mut shards = Vec::new(alloc);
-    for range in ranges(alloc, words)? {
-        let slots = vec![in alloc; (range.start, range.end)]?;
-        shards.push(Shard::new(slots, range.master, range.replicas))?;
-    }
-    Ok(ClusterTopology::from_shards(alloc, shards)?)
-}
-
-/// The hosts of the primaries of all shards.
-fn primaries(alloc: Global, topology: &ClusterTopology) -> RedisResult<String> {
-    let mut text = String::new(alloc);
-    for shard in topology.shards() {
-        push_next(&mut text, " ", shard.primary().host())?;
-    }
-    Ok(text)
 }

@@ -1,5 +1,6 @@
 //! Plans of commands: their targets, and the one reply of their answers, if no name only reads and
 //! none is registered.
+use crate::reads::asked;
 use crate::routing::Known;
 use cluster_map::SlotMap;
 use fixtures::{bad_row, cmd, cut, number, or_text, push_next, shown, two, value_text, values};
@@ -21,6 +22,7 @@ pub fn call(slots: &SlotMap, alloc: Global, name: &str, words: &str) -> RedisRes
             let command = cmd(alloc, command)?;
             nodes(alloc, &plan_of(alloc, slots, &command, number(pick)?)?)
         }
+        "asked" => asked(alloc, slots, words),
         _ => Err(bad_row("no call of this name")),
     }
 }

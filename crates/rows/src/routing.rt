@@ -4,8 +4,8 @@ pub mod pipelines;
 mod routes;
 mod tables;
 
-use fixtures::{bytes, equality, okay, or_text, read_only_names};
-use redis_cluster::routing::{MultiSlotArgPattern, Names, ReadOnlyNames, Registry, ResponsePolicy};
+use fixtures::{bad_row, bytes, equality, okay, or_text, read_only_names, shown, two};
+use redis_cluster::routing::{AggregateOp, Names, ReadOnlyNames, Registry, ResponsePolicy};
 use resp_core::RedisResult;
 use std::alloc::Global;
 
@@ -40,6 +40,8 @@ impl Known {
 pub fn call(known: &mut Known, alloc: Global, name: &str, text: &str) -> RedisResult<String> {
     match name {
         "reading" => reading(alloc, known, text),
+        "reads" => shown(alloc, &known.read_only.contains(text.as_bytes())),
+        "registry" => registry(alloc, known),
         "register" => register(alloc, known, text),
         "copied_registry" => equality(alloc, &known.registry),
         "routing" | "policy" | "redirect" | "copied_redirect" | "copied_address" => {
@@ -55,16 +57,32 @@ fn reading(alloc: Global, known: &mut Known, text: &str) -> RedisResult<String> 
     okay(alloc)
 }
 
-/// Registers a name whose arguments are pairs, and whose parts all have to succeed.
+/// No name is registered.
+fn registry(alloc: Global, known: &mut Known) -> RedisResult<String> {
+    known.registry = Registry::new(alloc);
+    okay(alloc)
+}
+
+/// Registers the name after a pattern and a policy.
 fn register(alloc: Global, known: &mut Known, text: &str) -> RedisResult<String> {
-    let (pattern, policy) = (
-        MultiSlotArgPattern::KeyValuePairs,
-        ResponsePolicy::AllSucceeded,
-    );
-    let name = bytes(alloc, text)?;
+    let (pattern, rest) = two(text);
+    let (policy, name) = two(rest);
+    let (pattern, policy) = (combiners::pattern_of(pattern)?, policy_of(policy)?);
+    let name = bytes(alloc, name)?;
     or_text(
         alloc,
         known.registry.register(alloc, &name, pattern, policy),
     )?;
     okay(alloc)
+}
+
+/// The policy of this name.
+fn policy_of(word: &str) -> RedisResult<ResponsePolicy> {
+    match word {
+        "AllSucceeded" => Ok(ResponsePolicy::AllSucceeded),
+        "Sum" => Ok(ResponsePolicy::Aggregate(AggregateOp::Sum)),
+        "CombineArrays" => Ok(ResponsePolicy::CombineArrays),
+        "Special" => Ok(ResponsePolicy::Special),
+        _ => Err(bad_row("no policy of this name")),
+    }
 }

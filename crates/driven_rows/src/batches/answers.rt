@@ -1,5 +1,5 @@
 //! Answers, as rows write them.
-use fixtures::{push_next, reply_text, shown, values};
+use fixtures::{error_text, push_next, shown, value_text, values};
 use redis_batches::PipelineError;
 use resp_core::{RedisError, RedisResult, Value};
 use std::alloc::Global;
@@ -16,11 +16,19 @@ pub fn answers_of(alloc: Global, text: &str) -> RedisResult<Answers> {
     Ok(answers)
 }
 
+/// A value as a row writes it, or the text of an error.
+fn answer_text(alloc: Global, answer: &Result<Value, RedisError>) -> RedisResult<String> {
+    match answer {
+        Ok(value) => value_text(alloc, value),
+        Err(error) => error_text(alloc, error),
+    }
+}
+
 /// The text of answers, a semicolon and a space apart.
 pub fn answers_text(alloc: Global, answers: &[Result<Value, RedisError>]) -> RedisResult<String> {
     let mut text = String::new(alloc);
     for answer in answers {
-        push_next(&mut text, "; ", &reply_text(alloc, answer)?)?;
+        push_next(&mut text, "; ", &answer_text(alloc, answer)?)?;
     }
     Ok(text)
 }

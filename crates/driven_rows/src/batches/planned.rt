@@ -1,5 +1,6 @@
 //! Pipelines that are planned, and get their answers by hand.
 use crate::batches::answers::{Answers, answers_of, answers_text};
+use cluster_map::ReadRoutingStrategy;
 use fixtures::{Cluster, bad_row, cmds, cut, lines, or_text, push_next};
 use redis_batches::PipelinePlan;
 use redis_cluster::routing::{Names, Registry};
@@ -25,7 +26,11 @@ fn plan_of<'a>(
         read_only: &cluster.read_only,
         registry: &registry,
     };
-    let plan = PipelinePlan::new(alloc, commands, names, &cluster.map, Some(&cluster.turns));
+    let strategy: Option<&dyn ReadRoutingStrategy> = match &cluster.strategy {
+        Some(strategy) => Some(strategy),
+        None => None,
+    };
+    let plan = PipelinePlan::new(alloc, commands, names, &cluster.map, strategy);
     or_text(alloc, plan)
 }
 

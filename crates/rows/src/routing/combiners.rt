@@ -47,7 +47,7 @@ fn routes(alloc: Global, text: &str) -> RedisResult<Vec<(Route, Vec<usize>)>> {
 }
 
 /// The pattern of this name.
-fn pattern_of(word: &str) -> RedisResult<MultiSlotArgPattern> {
+pub fn pattern_of(word: &str) -> RedisResult<MultiSlotArgPattern> {
     match word {
         "KeysOnly" => Ok(MultiSlotArgPattern::KeysOnly),
         "KeyValuePairs" => Ok(MultiSlotArgPattern::KeyValuePairs),

@@ -1,7 +1,7 @@
 //! Pipelines, and which of them a cluster refuses.
-use fixtures::{bad_row, bytes, debug, is_same, number, okay, pieces, plain};
+use fixtures::{bad_row, cmds, debug, is_same, number, okay, plain, shown};
 use redis_cluster::pipeline::{ClusterPipeline, cluster_pipe};
-use resp_core::RedisResult;
+use resp_core::{Cmd, RedisResult};
 use std::alloc::Global;
 
 /// What a call of this name returns. The pipeline is that of earlier rows.
@@ -17,18 +17,28 @@ pub fn call(
         "room" => *pipeline = ClusterPipeline::with_capacity(alloc, number(text)?)?,
         "copy" => *pipeline = pipeline.clone()?,
         "check" => pipeline.check(alloc)?,
+        "ignored" => return shown(alloc, &pipeline.ignored(number(text)?)),
         _ => return changed(alloc, pipeline, name, text),
     }
     okay(alloc)
 }
 
-/// A new pipeline of commands of these names, which has to be one that may be sent.
+/// A new pipeline of these commands, which has to be one that may be sent.
 fn pipe(alloc: Global, pipeline: &mut ClusterPipeline, text: &str) -> RedisResult<()> {
     *pipeline = cluster_pipe(alloc);
-    for name in &pieces(alloc, text, " ")? {
-        pipeline.push_cmd(alloc, &bytes(alloc, name)?)?;
+    for command in &cmds(alloc, text)? {
+        push(alloc, pipeline, command)?;
     }
     pipeline.check(alloc)
+}
+
+/// Adds a command with its arguments.
+fn push(alloc: Global, pipeline: &mut ClusterPipeline, command: &Cmd) -> RedisResult<()> {
+    pipeline.push_cmd(alloc, command.arg_idx(0).unwrap_or(b""))?;
+    for arg in command.args().skip(1) {
+        pipeline.write_arg(arg)?;
+    }
+    Ok(())
 }
 
 /// Adds a command, or an argument to the last one, or marks that command.

@@ -2,56 +2,73 @@
 use crate::routing::Known;
 use fixtures::{
     bad_row, bytes, bytes_or_none, cmd, cmd_text, debug, debug_or_none, equality, number, numbers,
-    or_text, two, value,
+    or_text, plain, push_next, two, value,
 };
 use redis_cluster::routing::{
     Routable, RoutingInfo, SplitCommand, command_for_multi_slot_indices,
     command_for_multi_slot_indices_with, multi_slot_routes,
 };
-use resp_core::{Cmd, RedisResult, Value};
+use resp_core::{Cmd, RedisResult};
 use std::alloc::{AllocError, Global};
 
-/// What a call of this name returns.
+/// What a call of this name returns. A command that begins with a bracket, or is `nil`, is a value.
 pub fn call(alloc: Global, known: &Known, name: &str, text: &str) -> RedisResult<String> {
+    let (first, text) = match name {
+        "route_bytes" => return debug_or_none(alloc, bytes_route(alloc, known, text)?.as_ref()),
+        "take" | "take_two" | "arg" | "position" => two(text),
+        _ => ("", text),
+    };
+    if text.starts_with('[') || text == "nil" {
+        ask(alloc, known, name, first, &value(alloc, text)?)
+    } else {
+        ask(alloc, known, name, first, &cmd(alloc, text)?)
+    }
+}
+
+/// What a call of this name returns for a command, after the first word of the row.
+fn ask<R: Routable>(
+    alloc: Global,
+    known: &Known,
+    name: &str,
+    first: &str,
+    command: &R,
+) -> RedisResult<String> {
     match name {
-        "route_value" => debug_or_none(alloc, value_route(alloc, known, text)?.as_ref()),
-        "route_bytes" => debug_or_none(alloc, bytes_route(alloc, known, text)?.as_ref()),
-        "part" | "take" | "take_two" => {
-            let (first, text) = two(text);
-            cut(alloc, known, name, first, &cmd(alloc, text)?)
-        }
-        _ => told(alloc, known, name, &cmd(alloc, text)?),
+        "take" => cmd_text(alloc, &take(alloc, command, &numbers(alloc, first)?)?),
+        "take_two" => cmd_text(alloc, &take_two(alloc, command, &numbers(alloc, first)?)?),
+        "arg" => bytes_or_none(alloc, command.arg_idx(number(first)?)),
+        "position" => debug_or_none(alloc, command.position(first.as_bytes()).as_ref()),
+        _ => told(alloc, known, name, command),
     }
 }
 
 /// What a call of this name returns for a command.
-fn told(alloc: Global, known: &Known, name: &str, command: &Cmd) -> RedisResult<String> {
+fn told<R: Routable>(alloc: Global, known: &Known, name: &str, command: &R) -> RedisResult<String> {
     match name {
         "route" => debug_or_none(alloc, route(alloc, known, command)?.as_ref()),
         "route_with" => debug_or_none(alloc, route_with(alloc, known, command)?.as_ref()),
         "copied_route" => copied_route(alloc, known, command),
+        "parts" => parts(alloc, known, command),
         "routes" => debug(alloc, &multi_slot_routes(alloc, command, known.names())?),
         "name" => bytes_or_none(alloc, command.command(alloc)?.as_deref()),
         _ => Err(bad_row("no call of this name")),
     }
 }
 
-fn route(alloc: Global, known: &Known, command: &Cmd) -> Result<Option<RoutingInfo>, AllocError> {
+fn route<R: Routable>(
+    alloc: Global,
+    known: &Known,
+    command: &R,
+) -> Result<Option<RoutingInfo>, AllocError> {
     RoutingInfo::for_routable(alloc, command, &known.read_only)
 }
 
-fn route_with(
+fn route_with<R: Routable>(
     alloc: Global,
     known: &Known,
-    command: &Cmd,
+    command: &R,
 ) -> Result<Option<RoutingInfo>, AllocError> {
     RoutingInfo::for_routable_with(alloc, command, &known.read_only, &known.registry)
-}
-
-/// Where a command goes that is an array of values.
-fn value_route(alloc: Global, known: &Known, text: &str) -> RedisResult<Option<RoutingInfo>> {
-    let command: Value = value(alloc, text)?;
-    Ok(RoutingInfo::for_routable(alloc, &command, &known.read_only)?)
 }
 
 /// Where a request goes.
@@ -61,39 +78,33 @@ fn bytes_route(alloc: Global, known: &Known, text: &str) -> RedisResult<Option<R
 }
 
 /// Whether a copy of where a command goes is equal.
-fn copied_route(alloc: Global, known: &Known, command: &Cmd) -> RedisResult<String> {
+fn copied_route<R: Routable>(alloc: Global, known: &Known, command: &R) -> RedisResult<String> {
     match route(alloc, known, command)? {
         Some(info) => equality(alloc, &info),
         None => Err(bad_row("the command goes nowhere")),
     }
 }
 
-/// The part of a number, or the command of the arguments at some indices.
-fn cut(
-    alloc: Global,
-    known: &Known,
-    name: &str,
-    first: &str,
-    command: &Cmd,
-) -> RedisResult<String> {
-    match name {
-        "part" => part(alloc, known, number(first)?, command),
-        "take" => cmd_text(alloc, &take(alloc, command, &numbers(alloc, first)?)?),
-        _ => cmd_text(alloc, &take_two(alloc, command, &numbers(alloc, first)?)?),
+/// The parts of a command, a semicolon and a space apart.
+fn parts<R: Routable>(alloc: Global, known: &Known, command: &R) -> RedisResult<String> {
+    let Some(split) = SplitCommand::new(alloc, command, known.names())? else {
+        return plain(alloc, "none");
+    };
+    let mut text = String::new(alloc);
+    for number in 0..split.len() {
+        push_next(
+            &mut text,
+            "; ",
+            &cmd_text(alloc, &split.part(alloc, number)?)?,
+        )?;
     }
+    Ok(text)
 }
 
-fn part(alloc: Global, known: &Known, number: usize, command: &Cmd) -> RedisResult<String> {
-    match SplitCommand::new(alloc, command, known.names())? {
-        Some(split) if number < split.len() => cmd_text(alloc, &split.part(alloc, number)?),
-        _ => Err(bad_row("no part of this number")),
-    }
-}
-
-fn take(alloc: Global, command: &Cmd, indices: &[usize]) -> RedisResult<Cmd> {
+fn take<R: Routable>(alloc: Global, command: &R, indices: &[usize]) -> RedisResult<Cmd> {
     command_for_multi_slot_indices(alloc, command, indices)
 }
 
-fn take_two(alloc: Global, command: &Cmd, indices: &[usize]) -> RedisResult<Cmd> {
+fn take_two<R: Routable>(alloc: Global, command: &R, indices: &[usize]) -> RedisResult<Cmd> {
     command_for_multi_slot_indices_with(alloc, command, 2, indices)
 }
