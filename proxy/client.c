@@ -6,6 +6,7 @@
 #include "peer.h"
 #include "private.h"
 #include "request.h"
+#include "subscription.h"
 #include "transaction.h"
 
 #include <errno.h>
@@ -24,7 +25,7 @@ void client_begin(worker *worker, int fd) {
     it->peer = (peer){.kind = PEER_CLIENT, .fd = fd};
     it->worker = worker;
     it->id = atomic_fetch_add(&the_proxy.next_id, 1) + 1;
-    it->read_at = worker->now;
+    it->active_at = worker->now;
     it->is_known = the_proxy.settings.password == NULL;
     it->next = worker->clients;
     if (it->next != NULL)
@@ -59,8 +60,10 @@ void client_end(client *it) {
 /* Closes the connection. The client itself is freed at the end of the round: an event may still name it. */
 static void client_close(client *it) {
     worker *worker = it->worker;
-    if (it->doom[0] != 0)
+    if (it->doom[0] != 0) {
+        figure_add(&worker->stats.counts[COUNT_CLIENTS_CLOSED], 1);
         say("client %llu: %s", (unsigned long long)it->id, it->doom);
+    }
     requests_disown(it);
     transaction_drop(it);
     private_drop(it);
@@ -89,11 +92,26 @@ void client_free(client *it) {
     memory_give(it, sizeof *it);
 }
 
-/* Whether another request may be read: the client takes its replies, and not too much is on the way. */
+/* The replies that a client has not read. */
+static size_t unread(const client *it) { return buffer_len(&it->out) + it->kept; }
+
+/* Whether the next request may wait until nodes have answered the earlier ones. It never waits for the client
+ * to read: a client may write all of its requests first. */
+static bool has_enough(const client *it) {
+    size_t expected = unread(it) + it->queued_bytes + it->queued * it->reply_len;
+    return it->queued >= MOST_QUEUED || it->queued_parts >= MOST_PARTS ||
+           (it->queued > 0 && expected >= the_proxy.settings.client_memory / 4);
+}
+
+/* Whether another request may be read. */
 static bool may_read(const client *it) {
-    return !it->is_ending && !it->is_alone && it->doom == NULL && it->queued < MOST_QUEUED &&
-           buffer_len(&it->out) + it->queued * it->reply_len < MOST_UNREAD &&
-           it->queued_bytes < the_proxy.settings.client_memory / 4 && it->queued_parts < MOST_PARTS;
+    return !it->is_ending && !it->is_alone && it->doom == NULL && !has_enough(it) &&
+           unread(it) <= the_proxy.settings.client_memory;
+}
+
+/* Whether the client waits for as long as a node likes, as with BLPOP. */
+static bool is_blocked(const client *it) {
+    return it->first != NULL && it->first->is_private && !it->first->is_subscription;
 }
 
 /* Refuses a command, with its name. */
@@ -107,35 +125,47 @@ static void refuse(client *it, words words, const char *why) {
     request_refuse(it, text);
 }
 
+/* Why a command is refused in the state in which the client is, or NULL if it is not. */
+static const char *refusal_of_state(const client *it, command_kind kind) {
+    if (kind == COMMAND_QUIT || kind == COMMAND_RESET)
+        return NULL;
+    if (it->is_elsewhere && kind != COMMAND_AUTH && kind != COMMAND_SELECT)
+        return "SELECT was refused, so this command is for another database: until SELECT 0, the proxy takes "
+               "AUTH, QUIT and RESET alone";
+    if (it->is_subscribed && kind != COMMAND_SUBSCRIPTION && kind != COMMAND_PING)
+        return "only (P)SUBSCRIBE, (P)UNSUBSCRIBE, PING, QUIT and RESET are allowed in this context";
+    return NULL;
+}
+
 /* Takes one whole request. False if it has to wait for the earlier ones. */
 static bool take(client *it, const uint8_t *bytes, size_t len) {
     command_kind kind = command_of(bytes, len);
     words words = words_of(bytes, len);
-    const char *refusal = command_refusal(kind);
+    const char *refusal = command_refusal(kind), *refusal_now = refusal_of_state(it, kind);
     bool is_taken =
         kind == COMMAND_TAKEN || kind == COMMAND_SPLIT || kind == COMMAND_SCRIPT || kind == COMMAND_STREAM;
-    bool is_about_subscriptions = kind == COMMAND_SUBSCRIPTION || (it->is_subscribed && kind == COMMAND_PING);
+    bool has_begun = true;
     if (words.left == 0)
         return true; /* a server does not answer a request of no words either */
     if (!it->is_known && kind != COMMAND_AUTH && kind != COMMAND_HELLO && kind != COMMAND_QUIT)
         request_answer_own(it, "-NOAUTH Authentication required.\r\n", 34);
-    else if (it->is_subscribed && !is_about_subscriptions && kind != COMMAND_QUIT && kind != COMMAND_RESET)
-        request_refuse(it,
-                       "only (P)SUBSCRIBE, (P)UNSUBSCRIBE, PING, QUIT and RESET are allowed in this context");
+    else if (refusal_now != NULL)
+        request_refuse(it, refusal_now);
     else if (kind == COMMAND_TRANSACTION)
         transaction_command(it, bytes, len);
     else if (it->is_multi && kind != COMMAND_QUIT && kind != COMMAND_RESET)
         transaction_queue(it, bytes, len, is_taken);
-    else if (is_about_subscriptions)
-        return subscription_begin(it, bytes, len);
     else if (refusal != NULL)
         refuse(it, words, refusal);
-    else if (!is_taken && kind != COMMAND_BLOCKING)
+    else if (kind == COMMAND_SUBSCRIPTION)
+        has_begun = subscription_begin(it, bytes, len);
+    else if (is_taken || kind == COMMAND_BLOCKING)
+        has_begun = request_begin(it, bytes, len, kind);
+    else
         own_answer(it, kind, bytes, len);
-    else if (!request_begin(it, bytes, len, kind))
-        return false;
-    figure_add(&it->worker->stats.counts[COUNT_COMMANDS], 1);
-    return true;
+    if (has_begun)
+        figure_add(&it->worker->stats.counts[COUNT_COMMANDS], 1);
+    return has_begun;
 }
 
 /* Takes the requests that have come whole, as far as the client may be read. Returns how many bytes they
@@ -169,7 +199,7 @@ void client_event(client *it, uint32_t events) {
     if (it->peer.fd < 0)
         return;
     client_touch(it);
-    bool has_left = (events & EPOLLRDHUP) != 0 && it->first != NULL && it->first->is_private;
+    bool has_left = (events & EPOLLRDHUP) != 0 && is_blocked(it);
     if (has_left || (events & EPOLLERR) != 0 || ((events & EPOLLHUP) != 0 && (events & EPOLLIN) == 0)) {
         client_doom(it, "");
         return;
@@ -187,21 +217,23 @@ void client_event(client *it, uint32_t events) {
         buffer_drop(&it->in, buffer_len(&it->in));
         return;
     }
+    if (found.fresh > 0)
+        it->active_at = it->worker->now;
     peer_keep(&found, &it->in, take_requests(it, found.bytes, found.len));
 }
 
 /* Writes replies. */
 static void write_replies(client *it) {
-    size_t unread = buffer_len(&it->out);
-    int64_t written = unread == 0 ? 0 : peer_write(&it->peer, &it->out);
+    size_t left = buffer_len(&it->out);
+    int64_t written = left == 0 ? 0 : peer_write(&it->peer, &it->out);
     if (written < 0)
         client_doom(it, "");
     else
         figure_add(&it->worker->stats.counts[COUNT_BYTES_OUT], (uint64_t)written);
-    if (unread == 0 || written > 0)
-        it->read_at = it->worker->now;
-    if (buffer_len(&it->out) > the_proxy.settings.client_memory)
-        client_doom(it, "it does not read its replies, which take too much memory");
+    if (left == 0 || written > 0)
+        it->active_at = it->worker->now;
+    if (unread(it) > the_proxy.settings.client_memory)
+        client_doom(it, "its replies, which it has not read, take more than client-memory");
 }
 
 /* Closes a client that has nothing more to come, in two steps: it has to see the end of its replies. */
@@ -232,15 +264,14 @@ void client_settle(client *it) {
     it->is_paused = may_be_paused(it);
     bool reads = !it->has_ended && (it->is_ending || may_read(it)) && !it->is_paused;
     bool writes = buffer_len(&it->out) > 0;
-    bool waits = it->first != NULL && it->first->is_private;
     peer_watch(it->worker, &it->peer,
-               (reads ? EPOLLIN : 0u) | (writes ? EPOLLOUT : 0u) | (waits ? EPOLLRDHUP : 0u));
+               (reads ? EPOLLIN : 0u) | (writes ? EPOLLOUT : 0u) | (is_blocked(it) ? EPOLLRDHUP : 0u));
     client_check(it);
 }
 
 void client_tick(client *it) {
     uint64_t limit = the_proxy.settings.client_timeout * MILLISECOND;
-    if (buffer_len(&it->out) > 0 && it->worker->now - it->read_at > limit)
+    if (buffer_len(&it->out) > 0 && it->worker->now - it->active_at > limit)
         client_doom(it, "it leaves its replies unread");
     if (it->is_shut && it->worker->now > it->end_at)
         client_doom(it, "");
@@ -248,8 +279,8 @@ void client_tick(client *it) {
         client_touch(it);
     if (it->own != NULL)
         node_tick(it->own);
-    if (it->worker->now - it->read_at > SECOND && buffer_len(&it->out) == 0)
+    if (it->worker->now - it->active_at > SECOND && buffer_len(&it->out) == 0)
         buffer_free(&it->out); /* it is idle */
-    if (it->worker->now - it->read_at > SECOND && buffer_len(&it->in) == 0)
+    if (it->worker->now - it->active_at > SECOND && buffer_len(&it->in) == 0)
         buffer_free(&it->in);
 }

@@ -3,6 +3,7 @@
 #include <string.h>
 #include <strings.h>
 
+/* The table has room for more than the names below and those that are added, so that each search ends. */
 enum { PLACES = 2048, LONGEST_NAME = 40 };
 
 typedef struct group {
@@ -101,14 +102,19 @@ static void add(const char *name, size_t len, command_kind kind) {
     found->kind = kind;
 }
 
-bool commands_take(const char *name) {
+const char *commands_take(const char *name) {
+    static size_t count;
     char upper[LONGEST_NAME];
     size_t len = join(upper, 0, (word){name, strlen(name)});
-    if (len == 0 || len + 1 >= LONGEST_NAME || memchr(upper, '|', len) != NULL ||
-        place_of(upper, len)->kind != COMMAND_UNKNOWN)
-        return false;
+    if (len == 0 || len + 1 >= LONGEST_NAME || memchr(upper, '|', len) != NULL)
+        return "is not a command's name";
+    if (place_of(upper, len)->kind != COMMAND_UNKNOWN)
+        return "is known already";
+    if (count == MOST_ADDED)
+        return "is one name too many: at most 1024 can be added";
+    count++;
     add(upper, len, COMMAND_TAKEN);
-    return true;
+    return NULL;
 }
 
 void commands_start(void) {

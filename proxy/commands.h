@@ -53,8 +53,10 @@ bool word_is(word word, const char *text); /* in any case */
 /* Fills the table of names, before threads start. */
 void commands_start(void);
 
-/* Has another name taken, whose key is its first argument. False if it is none or is known. */
-bool commands_take(const char *name);
+enum { MOST_ADDED = 1024 };
+
+/* Has another name taken, whose key is its first argument. Returns why it is not, or NULL. */
+const char *commands_take(const char *name);
 
 /* What a request is, by its first words. */
 command_kind command_of(const uint8_t *request, size_t len);

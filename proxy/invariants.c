@@ -30,7 +30,7 @@ void node_check(const node *node) {
 }
 
 void client_check(const client *client) {
-    size_t held = 0, queued = 0, bytes = 0;
+    size_t held = 0, queued = 0, bytes = 0, kept = 0;
     for (const request *it = client->first; it != NULL; it = it->next) {
         uint32_t left = 0, in_flight = 0;
         check_that(it->client == client && it->client_id == client->id, "a request belongs to its client");
@@ -43,10 +43,12 @@ void client_check(const client *client) {
         check_that(it->next != NULL || it == client->last, "the last request is the last");
         queued++;
         bytes += it->len;
+        kept += it->kept;
     }
     check_that(client->first == NULL || client->first->left > 0, "what is complete is answered");
     check_that(held == client->held, "held parts are counted");
     check_that(queued == client->queued && bytes == client->queued_bytes, "requests are counted");
+    check_that(kept == client->kept, "replies that wait are counted");
 }
 #else
 typedef int nothing_to_check;

@@ -12,7 +12,8 @@
  *   4. Its requests are answered in the order in which they came.
  *   5. A reply goes only to the client that asked. If that has gone, its requests belong to nobody, and
  *      their replies are dropped.
- *   6. `held` is the number of its parts that are HELD or AGAIN.
+ *   6. `held` is the number of its parts that are HELD or AGAIN, and `kept` the number of bytes of replies
+ *      that are not in `out` yet.
  *
  * Of each part:
  *   7. It is SENT if and only if one queue has one waiter for it.

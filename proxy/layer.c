@@ -26,6 +26,8 @@ static void make_room(size_t bytes, size_t parts) {
     }
 }
 
+const char *layer_version(void) { return SLOTROUTE_VERSION; }
+
 /* A long message is scanned first, so that one that comes in pieces is gone over once. */
 whole layer_request(const uint8_t *bytes, size_t len, slotroute_progress *progress, size_t *end) {
     slotroute_told told = {0};

@@ -5,6 +5,7 @@
 #include "peer.h"
 #include "private.h"
 #include "request.h"
+#include "subscription.h"
 #include "topology.h"
 #include "transaction.h"
 
@@ -127,8 +128,8 @@ static size_t take_replies(node *it, const uint8_t *bytes, size_t len) {
             node_doom(it, "a malformed reply");
         if (found != IS_WHOLE)
             break;
-        if (it->count == 0 && it->client != NULL && it->client->is_subscribed) {
-            subscription_message(it->client, bytes + used, end);
+        if (subscription_has(it, bytes + used, end)) {
+            subscription_message(it, bytes + used, end);
             used += end;
             continue;
         }
@@ -166,16 +167,28 @@ void node_event(node *it, uint32_t events) {
     node_check(it);
 }
 
+/* Says what becomes of the commands that wait for a connection that is lost. */
+static void report_loss(const node *it) {
+    size_t counts[FATES] = {0};
+    for (size_t at = 0; at < it->count; at++) {
+        const waiter *lost = &it->queue[(it->first + at) % it->room];
+        if (lost->waits == WAITS_PART)
+            counts[part_fate_of(lost->request, lost->offset < it->sent)]++;
+    }
+    say("node %s:%u: %s; %zu commands may have taken effect, %zu did not, %zu wait to be sent again",
+        it->host, it->port, it->lost, counts[FATE_UNSURE], counts[FATE_NO_EFFECT], counts[FATE_AGAIN]);
+}
+
 /* Closes the connection, and reports to who waits. What was not written is dropped: the connection is reset.
  */
 static void lose(node *it) {
     struct linger reset = {1, 0};
     waiter *queue = it->queue;
     size_t first = it->first, count = it->count, room = it->room;
-    uint64_t sent = it->sent;
+    uint64_t sent = it->sent; /* nothing, if it was not open */
     bool was_open = it->state == NODE_OPEN;
     if (!it->is_failing && !it->is_private && !(was_open && count == 0))
-        say("node %s:%u: %s; %zu replies are lost", it->host, it->port, it->lost, count);
+        report_loss(it);
     if (it->peer.fd >= 0) {
         setsockopt(it->peer.fd, SOL_SOCKET, SO_LINGER, &reset, sizeof reset);
         close(it->peer.fd);
@@ -195,7 +208,7 @@ static void lose(node *it) {
     for (size_t at = 0; at < count; at++) {
         const waiter *lost = &queue[(first + at) % room];
         if (lost->waits == WAITS_PART)
-            part_lost(lost->request, lost->part, it, was_open && lost->offset < sent);
+            part_lost(lost->request, lost->part, it, lost->offset < sent);
         if (lost->waits == WAITS_MAP)
             topology_lost(it, lost->client_id);
     }
@@ -246,6 +259,11 @@ void node_tick(node *it) {
 void node_end(node *it) {
     if (it->peer.fd >= 0)
         close(it->peer.fd);
+    for (size_t at = 0; at < it->count; at++) { /* what waits is of clients that have gone */
+        const waiter *last = &it->queue[(it->first + at) % it->room];
+        if (last->waits == WAITS_PART)
+            part_lost(last->request, last->part, it, true);
+    }
     buffer_free(&it->in);
     buffer_free(&it->out);
     memory_give(it->queue, it->room * sizeof *it->queue);

@@ -35,6 +35,16 @@ static void answer_bulk(client *client, const char *text, size_t len) {
     buffer_free(&out);
 }
 
+/* Answers PING as a server answers a subscriber. */
+static void answer_pong(client *client, word given) {
+    buffer out = {0};
+    buffer_print(&out, "*2\r\n$4\r\npong\r\n$%zu\r\n", given.len);
+    buffer_put(&out, given.text, given.len);
+    buffer_text(&out, "\r\n");
+    request_answer_own(client, (const char *)buffer_at(&out), buffer_len(&out));
+    buffer_free(&out);
+}
+
 static void refuse_count(client *client, word name) {
     char text[100];
     snprintf(text, sizeof text, "wrong number of arguments for '%.*s' command",
@@ -158,6 +168,18 @@ static void answer_client(client *client, const line *line) {
     }
 }
 
+static void answer_select(client *client, const line *line) {
+    if (line->count != 2) {
+        refuse_count(client, line->words[0]);
+        return;
+    }
+    client->is_elsewhere = !word_is(line->words[1], "0");
+    if (client->is_elsewhere)
+        request_refuse(client, "SELECT is not allowed in cluster mode: there is database 0 alone");
+    else
+        answer(client, "+OK\r\n");
+}
+
 static void answer_info(client *client) {
     buffer text = {0};
     stats_info(&text);
@@ -169,22 +191,23 @@ static void answer_reset(client *client) {
     transaction_drop(client);
     private_drop(client);
     client->is_known = the_proxy.settings.password == NULL;
+    client->is_elsewhere = false;
     client->name[0] = 0;
     answer(client, "+RESET\r\n");
 }
 
 void own_answer(client *client, unsigned kind, const uint8_t *request, size_t len) {
     line line = line_of(request, len);
-    if (kind == COMMAND_PING && line.count == 1)
+    if (kind == COMMAND_PING && line.count <= 2 && client->is_subscribed)
+        answer_pong(client, line.count == 2 ? line.words[1] : (word){"", 0});
+    else if (kind == COMMAND_PING && line.count == 1)
         answer(client, "+PONG\r\n");
     else if ((kind == COMMAND_PING || kind == COMMAND_ECHO) && line.count == 2)
         answer_bulk(client, line.words[1].text, line.words[1].len);
-    else if (kind == COMMAND_PING || kind == COMMAND_ECHO || (kind == COMMAND_SELECT && line.count != 2))
+    else if (kind == COMMAND_PING || kind == COMMAND_ECHO)
         refuse_count(client, line.words[0]);
-    else if (kind == COMMAND_SELECT && word_is(line.words[1], "0"))
-        answer(client, "+OK\r\n");
     else if (kind == COMMAND_SELECT)
-        request_refuse(client, "SELECT is not allowed in cluster mode: there is database 0 alone");
+        answer_select(client, &line);
     else if (kind == COMMAND_AUTH)
         answer_auth(client, &line);
     else if (kind == COMMAND_HELLO)

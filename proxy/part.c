@@ -5,6 +5,7 @@
 #include "node.h"
 #include "order.h"
 #include "private.h"
+#include "subscription.h"
 #include "topology.h"
 #include "transaction.h"
 
@@ -53,6 +54,7 @@ static void unqueue(client *client, size_t reply_len) {
     client->queued--;
     client->queued_bytes -= it->len;
     client->queued_parts -= it->parts;
+    client->kept -= it->kept;
     client->is_alone = false;
     client->reply_len = (7 * client->reply_len + reply_len) / 8;
     stats_took(&client->worker->stats, client->worker->now - it->start);
@@ -68,7 +70,12 @@ void requests_answer(client *client) {
     client_touch(client);
 }
 
-void part_keep(part *part, const uint8_t *reply, size_t len) {
+void part_keep(request *it, uint32_t at, const uint8_t *reply, size_t len) {
+    part *part = &it->part[at];
+    it->kept += len;
+    it->client->kept += len;
+    if (it->client->kept > the_proxy.settings.client_memory)
+        client_touch(it->client); /* it is closed at the end of the round */
     if (part->reply != NULL)
         memory_give(part->reply, part->reply_len);
     part->reply = NULL;
@@ -91,7 +98,7 @@ void part_finish(request *it, uint32_t at, const uint8_t *reply, size_t len) {
         requests_answer(client);
         return;
     }
-    part_keep(part, reply, len);
+    part_keep(it, at, reply, len);
     if (client->first == it && it->left == 0)
         requests_answer(client);
 }
@@ -127,6 +134,8 @@ void part_reply(request *it, uint32_t at, node *from, const uint8_t *reply, size
     it->in_flight--;
     if (client == NULL) {
         drop(it, at);
+    } else if (it->is_subscription) {
+        subscription_end(it, reply, len);
     } else if (reply[0] != '-') {
         part_finish(it, at, reply, len);
     } else if (it->queued > 0 ? !transaction_follow(it, from, reply, len)
@@ -138,24 +147,32 @@ void part_reply(request *it, uint32_t at, node *from, const uint8_t *reply, size
         slot_advance(client, slot);
 }
 
+part_fate part_fate_of(const request *it, bool was_sent) {
+    return it->client == NULL ? FATE_NOBODY
+           : was_sent         ? FATE_UNSURE
+           : it->policy == 0  ? FATE_AGAIN
+                              : FATE_NO_EFFECT;
+}
+
 void part_lost(request *it, uint32_t at, node *lost_at, bool was_sent) {
     client *client = it->client;
     part *part = &it->part[at];
     uint16_t slot = part->slot;
+    part_fate fate = part_fate_of(it, was_sent);
     it->in_flight--;
-    if (client == NULL) {
+    if (fate == FATE_NOBODY) {
         drop(it, at);
         return;
     }
     worker *worker = client->worker;
-    if (!was_sent && it->policy == 0) {
+    if (fate == FATE_AGAIN) {
         part->to = NULL;
         part->asking = false;
         part->due = worker->now + LONGER_PAUSE;
         part_hold(it, at, PART_AGAIN);
         return;
     }
-    if (was_sent)
+    if (fate == FATE_UNSURE)
         figure_add(&worker->stats.counts[COUNT_UNKNOWN_END], 1);
     part_fail_at(it, at, lost_at, was_sent);
     if (client->held > 0)

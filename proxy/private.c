@@ -1,9 +1,6 @@
 #include "private.h"
 
-#include "client.h"
 #include "node.h"
-#include "request.h"
-#include "topology.h"
 
 #include <string.h>
 
@@ -50,33 +47,4 @@ void private_free(worker *worker) {
         worker->left = left->next_left;
         node_end(left);
     }
-}
-
-bool subscription_begin(client *client, const uint8_t *bytes, size_t len) {
-    if (client->first != NULL)
-        return false;
-    node *any = client->own != NULL && client->is_subscribed ? client->own : topology_any(client->worker);
-    if (any == NULL) {
-        request_refuse(client, "the proxy has no map of the cluster");
-        return true;
-    }
-    node *own = client->is_subscribed ? any : private_node(client, any);
-    client->is_subscribed = true;
-    node_send(own, bytes, len);
-    return true;
-}
-
-/* Whether a message says that the client has no subscription left: *3 unsubscribe CHANNEL :0. */
-static bool is_last(const uint8_t *message, size_t len) {
-    static const char names[][28] = {"*3\r\n$11\r\nunsubscribe\r\n", "*3\r\n$12\r\npunsubscribe\r\n"};
-    bool is_end = len > 30 && memcmp(message + len - 5, "\n:0\r\n", 5) == 0;
-    return is_end && (memcmp(message, names[0], strlen(names[0])) == 0 ||
-                      memcmp(message, names[1], strlen(names[1])) == 0);
-}
-
-void subscription_message(client *client, const uint8_t *message, size_t len) {
-    buffer_put(&client->out, message, len);
-    if (is_last(message, len))
-        client->is_subscribed = false;
-    client_touch(client);
 }

@@ -17,10 +17,4 @@ void private_tick(node *own);
 /* Frees connections that were given up and are closed. */
 void private_free(worker *worker);
 
-/* Sends a command about subscriptions. False if the client's earlier requests have to be answered first. */
-bool subscription_begin(client *client, const uint8_t *bytes, size_t len);
-
-/* What a node sends to a client that has subscribed. */
-void subscription_message(client *client, const uint8_t *message, size_t len);
-
 #endif

@@ -8,8 +8,8 @@
 #include "stats.h"
 
 enum { MOST_NODES = 4096, NO_SLOT = 65535, SMALL_REPLY = 40, SMALL_ERROR = 512, READ_ROOM = 65536 };
-/* Requests and parts on the way, and bytes of unread replies, from which on a client has to wait. */
-enum { MOST_QUEUED = 256, MOST_PARTS = 4096, MOST_UNREAD = 1 << 20 };
+/* Requests and parts on the way from which on a client's next request waits until nodes have answered. */
+enum { MOST_QUEUED = 256, MOST_PARTS = 4096 };
 enum { MILLISECOND = 1000, SECOND = 1000000 }; /* in microseconds, in which all times are */
 enum { PAUSE = 20 * MILLISECOND, LONGER_PAUSE = 50 * MILLISECOND };
 
@@ -60,7 +60,9 @@ struct request {
     uint32_t parts, left, in_flight; /* all parts, those not done, those sent */
     uint32_t policy;
     bool is_split, is_script, is_private;
-    uint32_t queued;       /* the commands of a transaction, or 0 */
+    bool is_subscription, is_told; /* a command about subscriptions, and whether a reply to it has come */
+    uint32_t queued;               /* the commands of a transaction, or 0 */
+    size_t kept;                   /* bytes of the replies to its parts */
     size_t len, size;      /* of the request, and of the block that it stands in */
     uint8_t *bytes, *sent; /* the request, and what its parts are pieces of */
     part *part, one;
@@ -76,18 +78,20 @@ struct client {
     slotroute_progress progress;
     request *first, *last; /* in the order of their replies */
     size_t queued, queued_parts, queued_bytes;
+    size_t kept;                          /* bytes of replies that wait for an earlier one, or for a part's */
     size_t reply_len;                     /* of its replies, about: those of late count most */
     size_t held;                          /* parts that are HELD or AGAIN */
-    uint64_t read_at;                     /* when it last took bytes of its replies, or had none to take */
+    uint64_t active_at;                   /* when bytes last went to it or came from it, or none were to go */
     uint64_t end_at;                      /* when a client that is to close has to be gone */
     const char *doom;                     /* why it is closed at the end of the round, or NULL */
     bool is_dirty, is_troubled, is_known; /* known: it gave the password, if there is one */
-    bool is_alone;                        /* its one request goes to many nodes: the next waits */
+    bool is_alone;                        /* its one request has to be answered before the next is taken */
     bool is_ending;                       /* nothing more is read as requests */
     bool has_ended;                       /* it will send nothing more */
     bool is_shut;                         /* all was written, and it was told so */
     bool is_paused;                       /* it waits because of the memory of all */
     bool is_subscribed;
+    bool is_elsewhere; /* it selected another database than 0, and was refused */
     node *own; /* a connection that it has alone, or NULL */
     bool is_multi, is_multi_bad;
     buffer multi; /* the commands since MULTI */

@@ -135,6 +135,13 @@ bool request_begin(client *client, const uint8_t *bytes, size_t len, command_kin
     return true;
 }
 
+void request_begin_subscription(client *client, const buffer *bytes, node *to) {
+    request *it = request_new(client, buffer_at(bytes), buffer_len(bytes), 1, NULL);
+    it->is_subscription = it->is_private = client->is_alone = true;
+    it->one = (part){.end = it->len, .slot = NO_SLOT, .to = to};
+    part_begin(it, 0);
+}
+
 void request_answer_own(client *client, const char *text, size_t len) {
     if (text[0] == '-')
         figure_add(&client->worker->stats.counts[COUNT_OWN_ERRORS], 1);
@@ -147,7 +154,7 @@ void request_answer_own(client *client, const char *text, size_t len) {
     it->one.state = PART_DONE;
     it->one.slot = NO_SLOT;
     it->left = 0;
-    part_keep(&it->one, (const uint8_t *)text, len);
+    part_keep(it, 0, (const uint8_t *)text, len);
 }
 
 void request_refuse(client *client, const char *text) {
@@ -168,12 +175,5 @@ void requests_disown(client *client) {
         it = next;
     }
     client->first = client->last = NULL;
-    client->queued = client->queued_parts = client->queued_bytes = client->held = 0;
-}
-
-size_t request_kept(const request *it) {
-    size_t bytes = 0;
-    for (uint32_t at = 0; at < it->parts; at++)
-        bytes += it->part[at].reply_len;
-    return bytes;
+    client->queued = client->queued_parts = client->queued_bytes = client->kept = client->held = 0;
 }

@@ -13,6 +13,10 @@ bool request_begin(client *client, const uint8_t *bytes, size_t len, command_kin
 void request_begin_transaction(client *client, const uint8_t *bytes, size_t len, uint16_t slot,
                                uint32_t queued);
 
+/* Sends a command about subscriptions, and what asks the node for the end of its replies. `to` has the
+ * client's subscriptions, or is NULL for any node. */
+void request_begin_subscription(client *client, const buffer *bytes, node *to);
+
 /* Answers a request with a text of the proxy's own, once the earlier ones are answered. */
 void request_answer_own(client *client, const char *text, size_t len);
 
@@ -30,11 +34,16 @@ node *part_node(const request *request, uint32_t part);
 void part_send(request *request, uint32_t part);
 
 /* Keeps a reply until all earlier ones are written. */
-void part_keep(part *part, const uint8_t *reply, size_t len);
+void part_keep(request *request, uint32_t part, const uint8_t *reply, size_t len);
 
 /* A part is done, with this reply. May free the request. */
 void part_finish(request *request, uint32_t part, const uint8_t *reply, size_t len);
 void part_fail(request *request, uint32_t part, const char *text);
+
+/* What becomes of a part whose connection was lost: it is sent again, or its client gets an error. UNSURE: it
+ * may have taken effect. Nobody waits if the client has gone. */
+typedef enum part_fate { FATE_NOBODY, FATE_AGAIN, FATE_NO_EFFECT, FATE_UNSURE, FATES } part_fate;
+part_fate part_fate_of(const request *request, bool was_sent);
 
 /* A part is done with an error that names a node. `was_sent`: the node may have read some of it. */
 void part_fail_at(request *request, uint32_t part, const node *node, bool was_sent);
@@ -43,9 +52,6 @@ void part_fail_at(request *request, uint32_t part, const node *node, bool was_se
 void requests_answer(client *client);
 
 void request_free(request *request);
-
-/* How many bytes of replies a request keeps. */
-size_t request_kept(const request *request);
 
 /* The client has gone: its requests belong to nobody. */
 void requests_disown(client *client);

@@ -1,6 +1,7 @@
 #include "settings.h"
 
 #include "commands.h"
+#include "layer.h"
 
 #include <errno.h>
 #include <stdio.h>
@@ -85,7 +86,7 @@ static const char *set(settings *settings, const row *row, const char *value) {
         return NULL;
     }
     if (row->kind == NAME)
-        return commands_take(value) ? NULL : "is no name, or is known";
+        return commands_take(value);
     if (row->kind == TEXT) {
         memcpy(field, &value, sizeof value);
         return *value == 0 ? "is empty" : NULL;
@@ -159,11 +160,12 @@ static bool read_file(settings *settings, const char *path) {
     return wrong == NULL;
 }
 
-static void print_usage(void) {
-    fprintf(stderr, "usage: slotroute-proxy --node HOST:PORT [--FLAG VALUE ..] [--config FILE]\n\n");
+static void print_usage(FILE *file) {
+    fprintf(file, "Usage: slotroute-proxy --node HOST:PORT [--FLAG VALUE ..] [--config FILE]\n\n");
     for (size_t at = 0; at < ROWS; at++)
-        fprintf(stderr, "  --%-15s %s\n", rows[at].name, rows[at].says);
-    fprintf(stderr, "  --%-15s a file with a line `name value` for each of these\n", "config");
+        fprintf(file, "  --%-15s %s\n", rows[at].name, rows[at].says);
+    fprintf(file, "  --%-15s a file with a line `name value` for each of these\n", "config");
+    fprintf(file, "  --%-15s print the version\n", "version");
 }
 
 /* Reads one flag at `at`, and returns how many words it takes, or 0 if it is wrong. */
@@ -172,7 +174,11 @@ static int read_flag(settings *settings, int count, char **words, int at) {
     const char *value = at + 1 < count ? words[at + 1] : NULL;
     const row *row = strncmp(name, "--", 2) == 0 ? find(name + 2) : NULL;
     if (strcmp(name, "--help") == 0) {
-        print_usage();
+        print_usage(stdout);
+        exit(0);
+    }
+    if (strcmp(name, "--version") == 0) {
+        printf("slotroute-proxy %s\n", layer_version());
         exit(0);
     }
     if (strcmp(name, "--config") == 0 && value != NULL)
@@ -210,7 +216,7 @@ bool settings_read(settings *settings, int count, char **words) {
             return false;
     }
     if (settings->seed_count == 0) {
-        print_usage();
+        print_usage(stderr);
         return false;
     }
     return true;

@@ -12,6 +12,8 @@ static const row rows[COUNTERS] = {
                              "clients since the start"},
     [COUNT_CLIENTS_REFUSED] = {"rejected_connections", "clients_refused_total", "counter",
                                "clients above the limit"},
+    [COUNT_CLIENTS_CLOSED] = {"closed_connections", "clients_closed_total", "counter",
+                              "clients that the proxy closed, and the log says why"},
     [COUNT_COMMANDS] = {"total_commands_processed", "commands_total", "counter", "commands of clients"},
     [COUNT_SPLIT] = {"split_commands", "split_commands_total", "counter", "commands that were split by slot"},
     [COUNT_PARTS] = {"parts", "parts_total", "counter", "commands that were sent to nodes"},

@@ -10,6 +10,7 @@ typedef enum counter {
     COUNT_CLIENTS_NOW,   /* clients of this thread */
     COUNT_CLIENTS_TAKEN, /* since the start */
     COUNT_CLIENTS_REFUSED,
+    COUNT_CLIENTS_CLOSED, /* by the proxy, for a reason that the log has */
     COUNT_COMMANDS,
     COUNT_SPLIT, /* commands that were split by slot */
     COUNT_PARTS, /* what was sent to nodes for clients */

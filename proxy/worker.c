@@ -92,9 +92,8 @@ static void close_largest(worker *it) {
     client *largest = it->clients;
     size_t most = 0;
     for (client *at = it->clients; at != NULL; at = at->next) {
-        size_t bytes = buffer_len(&at->in) + buffer_len(&at->out) + buffer_len(&at->multi) + at->queued_bytes;
-        for (request *waits = at->first; waits != NULL; waits = waits->next)
-            bytes += request_kept(waits);
+        size_t bytes =
+            buffer_len(&at->in) + buffer_len(&at->out) + buffer_len(&at->multi) + at->queued_bytes + at->kept;
         largest = bytes > most ? at : largest;
         most = bytes > most ? bytes : most;
     }

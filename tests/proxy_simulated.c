@@ -51,7 +51,7 @@ static void must(bool holds, const char *what) {
 typedef struct connection {
     int fd;
     unsigned node, queued;
-    bool is_multi;
+    bool is_multi, is_subscribed;
     buffer in, out;
 } connection;
 
@@ -138,6 +138,19 @@ static bool answer_queued(connection *it, word name) {
     return was_multi || it->is_multi;
 }
 
+/* Answers a command about the one channel that there is, or about another. A message of that channel comes
+ * before the reply. */
+static void put_subscription(connection *it, bool is_more, word channel) {
+    const char *kind = is_more ? "$9\r\nsubscribe" : "$11\r\nunsubscribe";
+    if (it->is_subscribed)
+        buffer_text(&it->out, "*3\r\n$7\r\nmessage\r\n$1\r\nc\r\n$1\r\nx\r\n");
+    if (word_is(channel, "c") || channel.len == 0)
+        it->is_subscribed = is_more;
+    buffer_print(&it->out, "*3\r\n%s\r\n$%zu\r\n", kind, channel.len);
+    buffer_put(&it->out, channel.text, channel.len);
+    buffer_print(&it->out, "\r\n:%d\r\n", it->is_subscribed);
+}
+
 /* Answers as a server would, more or less. */
 static void put_reply(connection *it, words words) {
     word name = {"", 0}, key = {"", 0};
@@ -160,9 +173,7 @@ static void put_reply(connection *it, words words) {
     } else if (word_is(name, "BLPOP")) {
         buffer_text(&it->out, "*-1\r\n");
     } else if (word_is(name, "SUBSCRIBE") || word_is(name, "UNSUBSCRIBE")) {
-        bool is_more = name.len == 9;
-        buffer_print(&it->out, "*3\r\n$%zu\r\n%s\r\n$1\r\nc\r\n:%d\r\n", name.len,
-                     is_more ? "subscribe" : "unsubscribe", is_more);
+        put_subscription(it, name.len == 9, key);
     } else {
         buffer_text(&it->out, "+OK\r\n");
     }
@@ -294,6 +305,10 @@ static const char *const templates[] = {
     "*3\r\n$5\r\nBLPOP\r\n$1\r\na\r\n$1\r\n0\r\n",
     "*2\r\n$9\r\nSUBSCRIBE\r\n$1\r\nc\r\n",
     "*2\r\n$11\r\nUNSUBSCRIBE\r\n$1\r\nc\r\n",
+    "*1\r\n$11\r\nUNSUBSCRIBE\r\n",
+    "*3\r\n$9\r\nSUBSCRIBE\r\n$5\r\n__key\r\n$1\r\nc\r\n",
+    "*2\r\n$6\r\nSELECT\r\n$1\r\n1\r\n",
+    "*2\r\n$6\r\nSELECT\r\n$1\r\n0\r\n",
     "*4\r\n$4\r\nEVAL\r\n$1\r\nx\r\n$1\r\n1\r\n$1\r\na\r\n",
     "*1\r\n$5\r\nRESET\r\n",
     "*1\r\n$4\r\nINFO\r\n",

@@ -6,9 +6,10 @@ import subprocess
 import tempfile
 import threading
 import time
+from collections import Counter
 
 from outside import figures, raw, rest_of
-from shared import Client, FAKE, Move, OTHER, PORT, PROGRAM, is_open, others, proxy, request, said, set_password, slot_of, until
+from shared import Client, FAKE, Move, OTHER, PORT, PROGRAM, PROXY, is_open, others, proxy, request, said, set_password, slot_of, until
 
 
 def try_own():
@@ -16,7 +17,7 @@ def try_own():
     client = Client()
     found = [
         client.ask("PING"), client.ask("PING", "x"), client.ask("ECHO", "hello"), client.ask("SELECT", "0"),
-        client.ask("SELECT", "1")[:4], client.ask("HELLO", "3")[:8], client.ask("HELLO", "2")[4:6],
+        client.ask("SELECT")[:4], client.ask("HELLO", "3")[:8], client.ask("HELLO", "2")[4:6],
         client.ask("CLIENT", "SETNAME", "me"), client.ask("CLIENT", "GETNAME"), b"maps:" in client.ask("INFO"),
         len(client.ask("COMMAND")) > 100, client.ask("AUTH", "x")[:4], client.ask("QUIT"),
     ]  # fmt: skip
@@ -62,19 +63,20 @@ def try_node_user():
 
 
 def try_settings():
-    """A wrong setting is refused, with its line if it stands in a file."""
-    found = []
-    for text in ("node 127.0.0.1:1\nthreads none\n", "# a remark\n\nnode here\n", "nodes 127.0.0.1:1\n", "memory 3tb\n"):
+    """A wrong setting is refused, with its line if it stands in a file. So is a name too many for the table of commands."""
+    found, names = [], "".join(f"take name{it}\n" for it in range(3000))
+    for text in ("node 127.0.0.1:1\nthreads none\n", "# a remark\n\nnode here\n", "nodes 127.0.0.1:1\n", "memory 3tb\n", names, "take GET\n", "take a|b\n"):
         with tempfile.NamedTemporaryFile("w") as file:
             file.write(text)
             file.flush()
-            run = subprocess.run([PROGRAM, "--config", file.name], capture_output=True, text=True)
+            run = subprocess.run([PROGRAM, "--config", file.name], capture_output=True, text=True, timeout=20)
             found.append((run.returncode, run.stderr.replace(file.name, "FILE")))
     run = subprocess.run([PROGRAM, "--threads", "0"], capture_output=True, text=True)
     found.append((run.returncode, run.stderr))
     print(found)
-    numbers = [re.search(r"FILE:(\d):", it[1]) for it in found[:4]]
-    return [it and it.group(1) for it in numbers] == ["2", "3", "1", "1"] and all(it[0] == 2 for it in found)
+    numbers = [re.search(r"FILE:(\d+):", it[1]) for it in found[:-1]]
+    is_full = "take is one name too many" in found[4][1]
+    return is_full and [it and it.group(1) for it in numbers] == ["2", "3", "1", "1", "1025", "1", "1"] and all(it[0] == 2 for it in found)
 
 
 def try_figures():
@@ -216,6 +218,102 @@ def try_subscription():
     print(found)
     wanted = [[b"message", b"news", b"%d" % it] for it in range(3)]
     return found[2:5] == wanted and found[5:7] == [[b"pong", b""], "-ERR"] and found[-2:] == ["+OK", b"1"]
+
+
+def replies_to(port, requests, count):
+    """The replies to requests that are sent at once. Errors stand for one another."""
+    client = Client(port)
+    client.socket.settimeout(10)
+    client.socket.sendall(b"".join(request(*it.split()) for it in requests))
+    return ["an error" if str(it).startswith("-") else it for it in (client.reply() for _ in range(count))]
+
+
+IN_ORDER = [
+    (["UNSUBSCRIBE", "PUNSUBSCRIBE", "ECHO x"], 3),
+    (["unsubscribe a b", "PUNSUBSCRIBE a", "ECHO x"], 4),
+    (["ECHO x", "SUBSCRIBE a a", "ECHO x", "PING", "PING y", "UNSUBSCRIBE", "ECHO x", "PING"], 8),
+    (["PSUBSCRIBE a*", "SUBSCRIBE a", "PUNSUBSCRIBE", "ECHO x", "UNSUBSCRIBE a b", "PUNSUBSCRIBE", "ECHO x"], 8),
+    (["SUBSCRIBE", "ECHO x", "UNSUBSCRIBE", "SUBSCRIBE a", "SUBSCRIBE", "UNSUBSCRIBE x", "SUBSCRIBE b", "PING"], 8),
+    (["SUBSCRIBE a", "RESET", "ECHO x", "SUBSCRIBE b", "QUIT"], 5),
+]  # fmt: skip
+
+
+def try_subscription_order():
+    """Requests before and after a command about subscriptions are answered in their order, as by a server."""
+    found = [replies_to(PROXY, *it) for it in IN_ORDER]
+    wanted = [replies_to(PORT, *it) for it in IN_ORDER]
+    for it in zip(IN_ORDER, found, wanted):
+        print(*it, sep="\n  ")
+    client = Client()
+    client.ask("SET", "foo", "1")
+    mixed = client.ask_all([["GET", "foo"], ["SUBSCRIBE", "a"], ["GET", "foo"], ["UNSUBSCRIBE", "a"], ["GET", "foo"]])
+    print(mixed)
+    mixed[2] = mixed[2][:9]
+    return found == wanted and mixed == [b"1", [b"subscribe", b"a", 1], "-ERR only", [b"unsubscribe", b"a", 0], b"1"]
+
+
+def try_subscription_storm():
+    """Messages that come meanwhile stand between the replies, and none is lost or goes astray."""
+    over, found = threading.Event(), Counter()
+
+    def publish():
+        client, at = Client(PORT), 0  # one node, so that the messages have an order
+        while not over.is_set():
+            client.ask_all([["PUBLISH", "always", str(at + it)] for it in range(20)])
+            at += 20
+
+    def subscribe(number):
+        client, last = Client(), None
+        names = [f"{number}.{it}" for it in range(50)]
+        client.ask("SUBSCRIBE", "always")
+        for _ in range(30):
+            client.socket.sendall(request("SUBSCRIBE", *names) + request("PING", "a") + request("UNSUBSCRIBE", *names) + request("PING", "b"))
+            for wanted in [[b"subscribe"]] * 50 + [[b"pong", b"a"]] + [[b"unsubscribe"]] * 50 + [[b"pong", b"b"]]:
+                while (reply := client.reply())[0] == b"message":
+                    found["in turn" if last is None or int(reply[2]) == last + 1 else "out of turn"] += 1
+                    last = int(reply[2])
+                found["right" if reply[: len(wanted)] == wanted else f"{wanted}: {reply}"] += 1
+
+    publisher, subscribers = threading.Thread(target=publish), [threading.Thread(target=subscribe, args=(it,)) for it in range(5)]
+    for it in (publisher, *subscribers):
+        it.start()
+    for it in subscribers:
+        it.join()
+    over.set()
+    publisher.join()
+    print(dict(found))
+    return found.keys() == {"right", "in turn"} and found["right"] == 5 * 30 * 102
+
+
+def try_keys_told():
+    """Channels on which each node tells of its own keys are refused. Others are not, nor are patterns for all."""
+    client, subscriber = Client(), Client()
+    found = [
+        client.ask(*it.split())[:40]
+        for it in ("PSUBSCRIBE __keyspace@0__:*", "SUBSCRIBE news __keyevent@0__:del", "PSUBSCRIBE __key*", "psubscribe __keyevent@*__:expired")
+    ]
+    subscriber.ask("SUBSCRIBE", "news")
+    found.append(subscriber.ask("SUBSCRIBE", "__keyspace@0__:foo")[:40])
+    client.ask("PUBLISH", "news", "x")
+    rest = [subscriber.reply(), client.ask("SET", "foo", "1"), client.ask("PSUBSCRIBE", "*"), client.ask("SUBSCRIBE", "_key", "key")[2]]
+    print(found, rest)
+    wanted = [[b"message", b"news", b"x"], "+OK", [b"psubscribe", b"*", 1], 2]
+    return found == ["-ERR the proxy does not take channels wh"] * 5 and rest == wanted
+
+
+def try_selected():
+    """After a refused SELECT nothing takes effect until SELECT 0. So what is meant for another database leaves this one as it is."""
+    client = Client()
+    client.ask("MSET", "foo", "1", "bar", "2")
+    run = subprocess.run(["redis-cli", "-p", str(PROXY), "-n", "1", "flushdb"], capture_output=True, text=True, timeout=20)
+    some = ["FLUSHDB", "FLUSHALL", "SET foo 2", "MSET foo 2 bar 3", "MULTI", "SET foo 2", "EXEC", "PING", "SUBSCRIBE news", "BLPOP foo 0", "HELLO 2", "MONITOR"]
+    found = client.ask_all([["SELECT", "1"], *(it.split() for it in some), ["SELECT", "2"], ["GET", "foo"], ["AUTH", "x"], ["SELECT", "0"], ["MGET", "foo", "bar"]])
+    after = client.ask_all([["SELECT", "x"], ["GET", "foo"], ["SELECT"], ["GET", "foo"], ["RESET"], ["GET", "foo"], ["SELECT", "1"], ["QUIT"]])
+    print(run.stdout, run.stderr, found, after)
+    refusals = [it[:25] for it in found[1 : 1 + len(some)] + found[-4:-3] + [after[1], after[3]]]
+    is_refused = refusals == ["-ERR SELECT was refused, "] * (len(some) + 3) and "SELECT was refused" in run.stdout + run.stderr
+    is_open_again = found[-2:] == ["+OK", [b"1", b"2"]] and after[4:6] == ["+RESET", b"1"] and after[7] == "+OK"
+    return is_refused and is_open_again and found[-3].startswith("-ERR AUTH") and after[2].startswith("-ERR wrong number")
 
 
 def try_forged():

@@ -3,6 +3,7 @@
 import os
 import random
 import re
+import signal
 import socket
 import socketserver
 import threading
@@ -12,7 +13,7 @@ from collections import Counter
 from contextlib import suppress
 
 from outside import FIGURES, descriptors_of, memory_of, raw, rest_of
-from shared import Client, FAKE, IS_CHECKED, OTHER, PORT, is_open, others, proxy, request, said, until
+from shared import Client, FAKE, IS_CHECKED, OTHER, PORT, PROXY, is_open, others, port_of, process_of, proxy, request, said, until
 
 
 GARBAGE = [
@@ -55,28 +56,68 @@ def try_large():
     return found == ("+OK", True) and is_right and b"of more than" in error and seen.keys() == {"right", "longest"}
 
 
+def try_ahead():
+    """A client may write all of its requests before it reads: it waits for nothing but nodes. What it has not read is bounded,
+    and above that it is closed: the log says why, and a figure counts it."""
+    value, count = "x" * 10000, 1000
+    some = b"".join(request("SET", f"ahead{it}", value) + request("GET", f"ahead{it}") for it in range(count))
+    wanted = (b"+OK\r\n$10000\r\n" + value.encode() + b"\r\n") * count
+    is_right, start = [], time.monotonic()
+    with proxy(OTHER, PORT, "--client-memory", "16mb") as (_, _, report):
+        for port in (PROXY, OTHER):  # the second is near the limit
+            connection = raw(port)
+            connection.settimeout(20)
+            connection.sendall(some)
+            connection.shutdown(socket.SHUT_WR)
+            is_right.append(rest_of(connection) == wanted)
+        took = time.monotonic() - start
+        greedy = raw(OTHER)
+        greedy.settimeout(20)
+        with suppress(ConnectionError):
+            greedy.sendall(some + request("GET", "ahead0") * 10000)
+        closed, info = until(10, lambda: "more than client-memory" in said(report)), Client(OTHER).ask("INFO")
+    print(f"{is_right} after {took:.1f} s; closed after {closed} s")
+    return is_right == [True, True] and closed is not None and b"closed_connections:1\r\n" in info and took < 30
+
+
 def try_unread():
-    """Clients that never read make the proxy stop reading of them, and take bounded memory."""
+    """Clients that never read take bounded memory and are closed: above client-memory, or after client-timeout."""
     Client().ask("SET", "{foo}10k", "x" * 10000)
-    with proxy(OTHER, PORT, "--client-timeout", "4000") as (process, _, report):
+    with proxy(OTHER, PORT, "--client-timeout", "4000", "--client-memory", "8mb") as (process, _, report):
         Client(OTHER).ask("GET", "{foo}10k")
-        before, many = memory_of(process), [raw(OTHER) for _ in range(20)]
-        sent = 0
-        for it in many:
+        before, greedy, idle = memory_of(process), [raw(OTHER) for _ in range(20)], [raw(OTHER) for _ in range(20)]
+        for it in idle:
+            it.sendall(request("GET", "{foo}10k") * 700)
+        for it in greedy:
             it.setblocking(False)
         for _ in range(100):
-            for it in many:
+            for it in greedy:
                 with suppress(OSError):
-                    sent += it.send(request("GET", "{foo}10k") * 100)
+                    it.send(request("GET", "{foo}10k") * 100)
         most, start = memory_of(process), time.monotonic()
         for _ in range(20):
             assert Client(OTHER).ask("GET", "{foo}10k") == b"x" * 10000
             most = max(most, memory_of(process))
         took = time.monotonic() - start
-        closed = until(20, lambda: said(report).count("leaves its replies unread") == 20)
-        after = memory_of(process)
-    print(f"sent {sent} bytes of requests; memory {before}, {most}, {after} kB; twenty others: {took:.2f} s; closed after {closed} s")
-    return closed is not None and (IS_CHECKED or (most - before < 200000 and after - before < 60000 and took < 3))
+        texts = ("more than client-memory", "leaves its replies unread")
+        closed = until(20, lambda: [said(report).count(it) for it in texts] == [20, 20])
+        counts, after = [said(report).count(it) for it in texts], memory_of(process)
+    print(f"memory {before}, {most}, {after} kB; twenty others: {took:.2f} s; {counts} closed after {closed} s")
+    return closed is not None and (IS_CHECKED or (most - before < 400000 and after - before < 60000 and took < 3))
+
+
+def try_blocked_pipeline():
+    """Replies that wait for an earlier one count for client-memory, too."""
+    Client().ask("SET", "{foo}1m", "x" * (1 << 20))
+    with proxy(OTHER, PORT, "--client-memory", "8mb") as (_, _, report):
+        client = Client(OTHER)
+        slow = "local t = redis.call('TIME')[1] + 2 while redis.call('TIME')[1] + 0 < t do end return 7"
+        other = next(key for key in map(str, range(100)) if port_of(key) != port_of("foo"))
+        with suppress(ConnectionError):
+            client.socket.sendall(request("EVAL", slow, "1", other) + request("GET", "{foo}1m") * 50)
+        closed = until(1.5, lambda: "more than client-memory" in said(report))
+    print(f"closed after {closed} s")
+    return closed is not None
 
 
 def try_limits():
@@ -237,6 +278,31 @@ class HalfMap(socketserver.StreamRequestHandler):
                 halves = [(0, 8191, HalfMap.port), (8192, 16383, FAKE)]
                 slots = b"".join(b"*3\r\n:%d\r\n:%d\r\n*2\r\n$9\r\n127.0.0.1\r\n:%d\r\n" % it for it in halves)
                 self.wfile.write(b"*2\r\n" + slots if words[0] == b"CLUSTER\r\n" else b"+OK\r\n")
+
+
+def try_report():
+    """The log says what becomes of the commands at a connection that is lost: those that were not sent wait."""
+    socketserver.ThreadingTCPServer.allow_reuse_address = socketserver.ThreadingTCPServer.daemon_threads = True
+    with socketserver.ThreadingTCPServer(("127.0.0.1", FAKE), HalfMap) as node, socket.create_server(("127.0.0.1", 0)) as closed:
+        HalfMap.port = closed.getsockname()[1]
+        closed.close()
+        threading.Thread(target=node.serve_forever).start()
+        with proxy(OTHER, FAKE, "--retry", "300") as (_, _, report):
+            errors = Client(OTHER).ask_all([["SET", "bar", str(it)] for it in range(3)])
+            unsent = said(report)
+        node.shutdown()
+    node = process_of(port_of("foo"))
+    with proxy(OTHER, PORT, "--timeout", "500", "--retry", "300") as (_, _, report):
+        client = Client(OTHER)
+        client.ask("GET", "foo")
+        os.kill(node, signal.SIGSTOP)
+        unsure = client.ask("GET", "foo")
+        os.kill(node, signal.SIGCONT)
+        sent = said(report)
+    print(errors, unsent, unsure, sent)
+    is_told = "refused; 0 commands may have taken effect, 0 did not, 3 wait to be sent again" in unsent
+    is_sure = "silent for too long; 1 commands may have taken effect, 0 did not, 0 wait to be sent again" in sent
+    return is_told and is_sure and all("did not take effect" in it for it in errors) and "may have taken effect" in unsure
 
 
 def try_unreachable():

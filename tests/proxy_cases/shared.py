@@ -299,14 +299,24 @@ def try_long():
 
 
 def use_pipelines(number, over, counts):
-    """Sets and reads keys of two slots, twice each, without waiting, until the slot has moved."""
-    rng, client = random.Random(number), Client(OTHER)
+    """Sets and reads keys of two slots, twice each, without waiting, until the slot has moved. A command
+    that the proxy refuses with TRYAGAIN has no effect."""
+    rng, client, values = random.Random(number), Client(OTHER), {}
     keys = [f"{{foo}}{number}.{at}" for at in range(50)] + [f"{{bar}}{number}.{at}" for at in range(20)]
     while not over.is_set():
         some = [(key, str(rng.randrange(10**6))) for key in rng.choices(keys, k=4) * 2]
         found = client.ask_all(words for key, new in some for words in (("SET", key, new), ("GET", key)))
-        wanted = [it for _, new in some for it in ("+OK", new.encode())]
-        counts["read" if found == wanted else str(found)] += 1
+        wanted = []
+        for (key, new), answer in zip(some, found[::2]):
+            if not refused(answer):
+                values[key] = new.encode()
+            wanted += ["+OK", values.get(key)]
+        right = all(refused(it) or it == value for it, value in zip(found, wanted))
+        counts["refused" if right and any(map(refused, found)) else "read" if right else str(found)] += 1
+
+
+def refused(answer):
+    return str(answer).startswith("-TRYAGAIN")
 
 
 def use_keys(number, over, counts):
@@ -328,7 +338,8 @@ def use_keys(number, over, counts):
 
 def try_move():
     """While a slot moves, each value that clients read is the one that was written last. A command over
-    several keys is tried until the move ends, which may take ten seconds on a busy machine."""
+    several keys is tried until the move ends, which may take ten seconds on a busy machine. A client may
+    find one pipeline with commands that were refused with TRYAGAIN."""
     over, counts, piped = threading.Event(), Counter(), Counter()
     clients = [threading.Thread(target=use_keys, args=(it, over, counts)) for it in range(4)]
     clients += [threading.Thread(target=use_pipelines, args=(it, over, piped)) for it in (4, 5)]
@@ -345,7 +356,8 @@ def try_move():
             it.join()
     print("commands of four clients meanwhile:", dict(counts))
     print("pipelines of two clients meanwhile:", dict(piped))
-    return counts.keys() == {"written", "read"} and piped.keys() == {"read"}
+    # a pipeline that is on its way when the move begins may have commands refused, once for each client
+    return counts.keys() == {"written", "read"} and {"read"} <= piped.keys() <= {"read", "refused"} and piped["refused"] <= 2
 
 
 class Move:
