@@ -376,6 +376,26 @@ static int is_routed(const char *request, uint32_t slot, uint32_t addr) {
         && routed.addr == addr;
 }
 
+/* Whether the reply of number 1 is told as missing, where one of so many is there. Room is made for what
+   is there, so memory is enough. */
+static int is_missing(size_t count) {
+    slotroute_told told = told_before(), wanted = told_before();
+    uint8_t out[16];
+    wanted.batch = 0;
+    wanted.reply = 1;
+    return slotroute_combine_answers(SLOTROUTE_SUM, count, BYTES(":1\r\n"), out, sizeof out, &told)
+               == SLOTROUTE_REPLY_INCOMPLETE
+        && memcmp(&told, &wanted, sizeof told) == 0;
+}
+
+/* Whether these replies of two nodes make no one reply, and nothing is told. */
+static int is_unfit(uint32_t policy, const char *replies) {
+    slotroute_told told = told_before();
+    uint8_t out[16];
+    return slotroute_combine_answers(policy, 2, BYTES(replies), out, sizeof out, &told) == SLOTROUTE_NO_FORM
+        && is_told(told, NULL, NULL, NULL, NULL);
+}
+
 static int exact(void) {
     uint16_t slots[4];
     size_t ends[4], parts = 2, bytes = 58, whole = 4;
@@ -404,6 +424,8 @@ static int exact(void) {
     if (!is_routed("*2\r\n$3\r\nGET\r\n$3\r\nfoo\r\n", 12182, SLOTROUTE_REPLICA_OPTIONAL)
         || !is_routed("*3\r\n$7\r\nCLUSTER\r\n$8\r\nADDSLOTS\r\n$1\r\n5\r\n", 5, SLOTROUTE_PRIMARY))
         return 6;
+    if (!is_missing(2) || !is_missing((size_t)1 << 29) || !is_missing(SIZE_MAX)) return 7;
+    if (!is_unfit(SLOTROUTE_SUM, ":1\r\n$-1\r\n") || !is_unfit(SLOTROUTE_SPECIAL, ":1\r\n:2\r\n")) return 8;
     return 0;
 }
 

@@ -24,10 +24,9 @@ pub struct Progress {
     pub after: u64,
 }
 
-/// Where a request goes. The header lists the values.
 #[repr(C)]
-#[derive(Clone, Copy, Debug, Default, PartialEq, Eq)]
-pub struct Routed {
+#[derive(Default)]
+pub(crate) struct Routed {
     pub kind: u32,
     pub slot: u32,
     pub addr: u32,
@@ -44,13 +43,15 @@ pub(crate) struct Redirected {
 }
 
 #[rustfmt::skip]
-unsafe extern "C" {
-    pub(crate) safe fn slotroute_version() -> u32;
+extern "C" {
+    pub(crate) fn slotroute_version() -> u32;
     pub(crate) fn slotroute_message(answer: u32, text: *mut u8, text_len: usize) -> usize;
     pub(crate) fn slotroute_slot(key: *const u8, key_len: usize) -> u16;
     pub(crate) fn slotroute_request_len(bytes: *const u8, bytes_len: usize, told: *mut Told) -> u32;
     pub(crate) fn slotroute_reply_len(bytes: *const u8, bytes_len: usize, told: *mut Told) -> u32;
-    pub(crate) fn slotroute_scan(bytes: *const u8, bytes_len: usize, progress: *mut Progress) -> u32;
+    pub(crate) fn slotroute_scan(
+        bytes: *const u8, bytes_len: usize, progress: *mut Progress,
+    ) -> u32;
     pub(crate) fn slotroute_route(
         request: *const u8, request_len: usize, names: *const u8, names_len: usize, only_reads: u32,
         routed: *mut Routed, told: *mut Told,

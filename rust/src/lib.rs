@@ -1,30 +1,14 @@
-//! Routing for Redis Cluster on the bytes of requests and replies (RESP2): safe calls of
-//! `libslotroute`, whose code is proved. Its page for callers in C says what each call does.
-//!
-//! ```
-//! use slotroute::{combine, slot, split};
-//!
-//! let request = b"*3\r\n$4\r\nMGET\r\n$3\r\nfoo\r\n$3\r\nbar\r\n";
-//! let parts = split(request, b"")?;
-//! assert_eq!(parts.iter().map(|(slot, _)| slot).collect::<Vec<_>>(), [slot(b"foo"), slot(b"bar")]);
-//! let reply = combine(request, b"", b"*1\r\n$1\r\n1\r\n*1\r\n$1\r\n2\r\n")?;
-//! assert_eq!(reply, b"*2\r\n$1\r\n1\r\n$1\r\n2\r\n");
-//! # Ok::<(), slotroute::Refused>(())
-//! ```
-//!
-//! `names` is a text of lines that register a module's commands, as `multi keys sum COUNTKEYS`, or it
-//! is empty. The header says what a line has.
+#![doc = include_str!("../README.md")]
 
 mod ffi;
+mod values;
 
-pub use ffi::{Progress, Routed, Told};
-use std::{error::Error, fmt, iter};
+pub use ffi::{Progress, Told};
+use std::{error::Error, fmt, iter, mem, slice, vec};
+pub use values::{Addr, Code, Kind, Policy};
 
+/// What a call returns that did what was asked. Each other number is a `Code`.
 const DONE: u32 = 0;
-const TOO_SMALL: u32 = 2;
-const REQUEST_INCOMPLETE: u32 = 3;
-const REPLY_INCOMPLETE: u32 = 7;
-const NO_REDIRECT: u32 = 15;
 
 /// How many slots there are.
 pub const SLOTS: usize = 16384;
@@ -32,18 +16,25 @@ pub const SLOTS: usize = 16384;
 /// The number that stands for no node.
 pub const NO_NODE: u16 = 65535;
 
-/// A code other than 0, and what goes with it.
+/// Why a call has no answer, and the sizes and indices that go with it.
 #[derive(Clone, Copy, Debug, PartialEq, Eq)]
 pub struct Refused {
-    pub code: u32,
+    pub code: Code,
     pub told: Told,
+}
+
+impl Refused {
+    fn new(code: u32, told: Told) -> Self {
+        Refused { code: code.into(), told }
+    }
 }
 
 impl fmt::Display for Refused {
     fn fmt(&self, f: &mut fmt::Formatter<'_>) -> fmt::Result {
         let mut text = [0; 100];
         // SAFETY: the pointer and the length are those of one array.
-        let len = unsafe { ffi::slotroute_message(self.code, text.as_mut_ptr(), text.len()) };
+        let len =
+            unsafe { ffi::slotroute_message(self.code.into(), text.as_mut_ptr(), text.len()) };
         f.write_str(&String::from_utf8_lossy(text.get(..len).unwrap_or_default()))
     }
 }
@@ -52,7 +43,8 @@ impl Error for Refused {}
 
 /// The version of the library: 100 for 0.1.0.
 pub fn version() -> u32 {
-    ffi::slotroute_version()
+    // SAFETY: the call takes nothing.
+    unsafe { ffi::slotroute_version() }
 }
 
 /// The slot of a key.
@@ -67,7 +59,7 @@ pub fn request_len(bytes: &[u8]) -> Result<Option<usize>, Refused> {
     let mut told = Told::default();
     // SAFETY: as in `slot`.
     let code = unsafe { ffi::slotroute_request_len(bytes.as_ptr(), bytes.len(), &mut told) };
-    len_unless(REQUEST_INCOMPLETE, code, told)
+    len_unless(Code::RequestIncomplete, code, told)
 }
 
 /// The length of the first reply, or `None` if more bytes are needed.
@@ -75,7 +67,7 @@ pub fn reply_len(bytes: &[u8]) -> Result<Option<usize>, Refused> {
     let mut told = Told::default();
     // SAFETY: as in `slot`.
     let code = unsafe { ffi::slotroute_reply_len(bytes.as_ptr(), bytes.len(), &mut told) };
-    len_unless(REPLY_INCOMPLETE, code, told)
+    len_unless(Code::ReplyIncomplete, code, told)
 }
 
 /// The length of the first message, or `None` if more bytes are needed. Then call again with all
@@ -85,22 +77,32 @@ pub fn scan(bytes: &[u8], progress: &mut Progress) -> Result<Option<usize>, Refu
     // SAFETY: as in `slot`.
     match unsafe { ffi::slotroute_scan(bytes.as_ptr(), bytes.len(), progress) } {
         DONE => Ok(Some(progress.bytes)),
-        REPLY_INCOMPLETE => Ok(None),
-        code => Err(Refused { code, told: Told::default() }),
+        code if Code::from(code) == Code::ReplyIncomplete => Ok(None),
+        code => Err(Refused::new(code, Told::default())),
     }
 }
 
-fn len_unless(incomplete: u32, code: u32, told: Told) -> Result<Option<usize>, Refused> {
+fn len_unless(incomplete: Code, code: u32, told: Told) -> Result<Option<usize>, Refused> {
     match code {
         DONE => Ok(Some(told.bytes)),
-        code if code == incomplete => Ok(None),
-        code => Err(Refused { code, told }),
+        code if Code::from(code) == incomplete => Ok(None),
+        code => Err(Refused::new(code, told)),
     }
+}
+
+/// Where a request goes. `slot` and `addr` count for `Kind::Slot`, and `policy` for `Kind::All`,
+/// `Kind::AllPrimaries` and `Kind::Slots`.
+#[derive(Clone, Copy, Debug, PartialEq, Eq)]
+pub struct Routed {
+    pub kind: Kind,
+    pub slot: u16,
+    pub addr: Addr,
+    pub policy: Policy,
 }
 
 /// Where a request goes. With `only_reads`, a replica may serve it.
 pub fn route(request: &[u8], names: &[u8], only_reads: bool) -> Result<Routed, Refused> {
-    let (mut routed, mut told) = (Routed::default(), Told::default());
+    let (mut routed, mut told) = (ffi::Routed::default(), Told::default());
     // SAFETY: as in `slot`.
     let code = unsafe {
         ffi::slotroute_route(
@@ -113,7 +115,20 @@ pub fn route(request: &[u8], names: &[u8], only_reads: bool) -> Result<Routed, R
             &mut told,
         )
     };
-    if code == DONE { Ok(routed) } else { Err(Refused { code, told }) }
+    if code != DONE {
+        return Err(Refused::new(code, told));
+    }
+    Ok(Routed {
+        kind: routed.kind.into(),
+        slot: narrow(routed.slot),
+        addr: routed.addr.into(),
+        policy: routed.policy.into(),
+    })
+}
+
+/// A slot or a port, which the library writes as 32 bits.
+fn narrow(number: u32) -> u16 {
+    u16::try_from(number).unwrap_or(u16::MAX)
 }
 
 /// Calls with room for as much as `told` says, until it is enough.
@@ -121,14 +136,17 @@ fn with_room(mut told: Told, mut call: impl FnMut(&mut Told) -> u32) -> Result<T
     loop {
         match call(&mut told) {
             DONE => return Ok(told),
-            TOO_SMALL => continue,
-            code => return Err(Refused { code, told }),
+            code if Code::from(code) == Code::TooSmall => continue,
+            code => return Err(Refused::new(code, told)),
         }
     }
 }
 
 /// The bytes that a call writes, which is made again if they do not fit.
-fn written(room: usize, mut call: impl FnMut(&mut [u8], &mut Told) -> u32) -> Result<Vec<u8>, Refused> {
+fn written(
+    room: usize,
+    mut call: impl FnMut(&mut [u8], &mut Told) -> u32,
+) -> Result<Vec<u8>, Refused> {
     let mut out = Vec::new();
     let told = with_room(Told { bytes: room, ..Told::default() }, |told| {
         out.resize(told.bytes, 0);
@@ -138,11 +156,34 @@ fn written(room: usize, mut call: impl FnMut(&mut [u8], &mut Told) -> u32) -> Re
     Ok(out)
 }
 
-/// What stands between two ends, from the first byte on.
-fn pieces<'a>(bytes: &'a [u8], ends: &'a [usize]) -> impl Iterator<Item = &'a [u8]> {
-    let starts = iter::once(0).chain(ends.iter().copied());
-    starts.zip(ends).map(|(start, end)| &bytes[start..*end])
+/// The bytes of each part or batch, one after the other.
+#[derive(Clone, Debug)]
+pub struct Pieces<'a> {
+    bytes: &'a [u8],
+    ends: iter::Copied<slice::Iter<'a, usize>>,
+    start: usize,
 }
+
+impl<'a> Pieces<'a> {
+    fn new(bytes: &'a [u8], ends: &'a [usize]) -> Self {
+        Pieces { bytes, ends: ends.iter().copied(), start: 0 }
+    }
+}
+
+impl<'a> Iterator for Pieces<'a> {
+    type Item = &'a [u8];
+
+    fn next(&mut self) -> Option<&'a [u8]> {
+        let end = self.ends.next()?;
+        self.bytes.get(mem::replace(&mut self.start, end)..end)
+    }
+
+    fn size_hint(&self) -> (usize, Option<usize>) {
+        self.ends.size_hint()
+    }
+}
+
+impl ExactSizeIterator for Pieces<'_> {}
 
 /// The parts of a request: for each its slot and its bytes.
 #[derive(Clone, Debug, Default, PartialEq, Eq)]
@@ -152,10 +193,43 @@ pub struct Parts {
     bytes: Vec<u8>,
 }
 
+/// Each part of `Parts`: its slot and its bytes.
+pub type PartsIter<'a> = iter::Zip<iter::Copied<slice::Iter<'a, u16>>, Pieces<'a>>;
+
 impl Parts {
     /// Each part, in the order of the first keys.
-    pub fn iter(&self) -> impl Iterator<Item = (u16, &[u8])> {
-        self.slots.iter().copied().zip(pieces(&self.bytes, &self.ends))
+    pub fn iter(&self) -> PartsIter<'_> {
+        self.slots.iter().copied().zip(Pieces::new(&self.bytes, &self.ends))
+    }
+
+    /// How many parts there are.
+    pub fn len(&self) -> usize {
+        self.slots.len()
+    }
+
+    /// Whether there is no part. `split` makes at least one.
+    pub fn is_empty(&self) -> bool {
+        self.slots.is_empty()
+    }
+}
+
+impl<'a> IntoIterator for &'a Parts {
+    type Item = (u16, &'a [u8]);
+    type IntoIter = PartsIter<'a>;
+
+    fn into_iter(self) -> PartsIter<'a> {
+        self.iter()
+    }
+}
+
+/// Gives each part bytes of its own, which are copied. `&Parts` borrows them.
+impl IntoIterator for Parts {
+    type Item = (u16, Vec<u8>);
+    type IntoIter = vec::IntoIter<(u16, Vec<u8>)>;
+
+    fn into_iter(self) -> Self::IntoIter {
+        let own: Vec<_> = self.iter().map(|(slot, bytes)| (slot, bytes.to_vec())).collect();
+        own.into_iter()
     }
 }
 
@@ -212,12 +286,12 @@ pub fn combine(request: &[u8], names: &[u8], replies: &[u8]) -> Result<Vec<u8>, 
 }
 
 /// The one reply to a request that went whole to `count` nodes, by the policy of its route.
-pub fn combine_answers(policy: u32, count: usize, replies: &[u8]) -> Result<Vec<u8>, Refused> {
+pub fn combine_answers(policy: Policy, count: usize, replies: &[u8]) -> Result<Vec<u8>, Refused> {
     written(replies.len() + 64, |out, told| {
         // SAFETY: as in `slot`.
         unsafe {
             ffi::slotroute_combine_answers(
-                policy,
+                policy.into(),
                 count,
                 replies.as_ptr(),
                 replies.len(),
@@ -236,9 +310,9 @@ pub struct Table {
     pub nodes: Vec<String>,
 }
 
-/// The table of a reply to `CLUSTER SLOTS` of the host `answering`. `addr` is 0 for primaries, and
-/// 2 for the replica at `pick`.
-pub fn table(reply: &[u8], answering: &str, addr: u32, pick: usize) -> Result<Table, Refused> {
+/// The table of a reply to `CLUSTER SLOTS` of the host `answering`: of the primaries, or of the
+/// replica at `pick` modulo their count.
+pub fn table(reply: &[u8], answering: &str, addr: Addr, pick: usize) -> Result<Table, Refused> {
     let mut numbers = vec![NO_NODE; SLOTS];
     let lines = written(reply.len() + 64, |nodes, told| {
         // SAFETY: as in `slot`.
@@ -248,7 +322,7 @@ pub fn table(reply: &[u8], answering: &str, addr: u32, pick: usize) -> Result<Ta
                 reply.len(),
                 answering.as_ptr(),
                 answering.len(),
-                addr,
+                addr.into(),
                 pick,
                 numbers.as_mut_ptr(),
                 numbers.len(),
@@ -265,8 +339,8 @@ pub fn table(reply: &[u8], answering: &str, addr: u32, pick: usize) -> Result<Ta
 /// The batches of a pipeline: for each the number of its node, its commands and its bytes.
 #[derive(Clone, Debug, Default, PartialEq, Eq)]
 pub struct Batches {
-    /// The part that each reply answers, batch after batch. Parts are numbered from 0, request after
-    /// request.
+    /// The part that each reply answers, batch after batch. Parts are numbered from 0, request
+    /// after request.
     pub places: Vec<usize>,
     /// The number of parts of each request, 1 for a request that goes out whole.
     pub parts: Vec<usize>,
@@ -289,7 +363,9 @@ impl Batches {
     /// Each batch: the number of its node, the number of its commands, and its bytes.
     pub fn iter(&self) -> impl Iterator<Item = (u16, usize, &[u8])> {
         let counted = self.nodes.iter().copied().zip(self.counts.iter().copied());
-        counted.zip(pieces(&self.bytes, &self.ends)).map(|((node, count), bytes)| (node, count, bytes))
+        counted
+            .zip(Pieces::new(&self.bytes, &self.ends))
+            .map(|((node, count), bytes)| (node, count, bytes))
     }
 }
 
@@ -361,9 +437,9 @@ pub fn combine_pipeline(
 #[derive(Clone, Debug, PartialEq, Eq)]
 pub struct Redirect {
     pub is_ask: bool,
-    pub slot: u32,
+    pub slot: u16,
     pub host: String,
-    pub port: u32,
+    pub port: u16,
 }
 
 /// What the text of an error says of a redirect, or `None` if it is another error. The host is
@@ -386,12 +462,12 @@ pub fn redirect(text: &[u8], answering: &str) -> Result<Option<Redirect>, Refuse
     match code {
         DONE => Ok(Some(Redirect {
             is_ask: told.kind == 2,
-            slot: told.slot,
+            slot: narrow(told.slot),
             host: String::from_utf8_lossy(&host[..told.host_len]).into_owned(),
-            port: told.port,
+            port: narrow(told.port),
         })),
-        NO_REDIRECT => Ok(None),
-        code => Err(Refused { code, told: Told::default() }),
+        code if Code::from(code) == Code::NoRedirect => Ok(None),
+        code => Err(Refused::new(code, Told::default())),
     }
 }
 
@@ -408,21 +484,33 @@ mod tests {
         assert_eq!((version(), slot(b"foo")), (100, 12182));
         assert_eq!(request_len(b"*1\r\n$4\r\nPING\r\n+"), Ok(Some(14)));
         assert_eq!(reply_len(b"*2\r\n:1\r\n"), Ok(None));
-        assert_eq!(reply_len(b"?").map_err(|refused| refused.code), Err(8));
+        assert_eq!(reply_len(b"?").map_err(|refused| refused.code), Err(Code::ReplyMalformed));
         let (mut progress, message) = (Progress::default(), b"%1\r\n+a\r\n#t\r\n:5\r\n");
         assert!((0..12).all(|len| scan(&message[..len], &mut progress) == Ok(None)));
         assert_eq!(scan(message, &mut progress), Ok(Some(12)));
-        assert_eq!(scan(b"?", &mut Progress::default()).map_err(|refused| refused.code), Err(8));
+        assert_eq!(
+            scan(b"?", &mut Progress::default()).map_err(|refused| refused.code),
+            Err(Code::ReplyMalformed)
+        );
         let routed = route(b"*2\r\n$3\r\nGET\r\n$3\r\nfoo\r\n", b"", true);
-        assert_eq!(routed, Ok(Routed { kind: 3, slot: 12182, addr: 1, policy: 0 }));
+        assert_eq!(
+            routed,
+            Ok(Routed {
+                kind: Kind::Slot,
+                slot: 12182,
+                addr: Addr::ReplicaOptional,
+                policy: Policy::None
+            })
+        );
         let error = split(b"*2\r\n$3\r\nGET\r\n$3\r\nfoo\r\n", b"").unwrap_err();
         assert!(!error.to_string().is_empty());
     }
 
     #[test]
     fn a_pipeline_by_a_table() {
-        let reply = b"*2\r\n*3\r\n:0\r\n:8191\r\n*2\r\n$1\r\na\r\n:1\r\n*3\r\n:8192\r\n:16383\r\n*2\r\n$1\r\nb\r\n:2\r\n";
-        let table = table(reply, "c", 0, 0).unwrap();
+        let reply = b"*2\r\n*3\r\n:0\r\n:8191\r\n*2\r\n$1\r\na\r\n:1\r\n\
+            *3\r\n:8192\r\n:16383\r\n*2\r\n$1\r\nb\r\n:2\r\n";
+        let table = table(reply, "c", Addr::Primary, 0).unwrap();
         assert_eq!(table.nodes, ["a:1", "b:2"]);
         let batches = split_pipeline(PIPELINE, b"", &table.numbers).unwrap();
         assert_eq!(
@@ -433,7 +521,7 @@ mod tests {
         let replies = b"+OK\r\n*1\r\n$1\r\n1\r\n+OK\r\n*1\r\n$1\r\n2\r\n";
         let combined = combine_pipeline(PIPELINE, b"", &table.numbers, replies).unwrap();
         assert_eq!(combined, b"+OK\r\n+OK\r\n*2\r\n$1\r\n2\r\n$1\r\n1\r\n");
-        assert_eq!(combine_answers(7, 2, b":3\r\n:4\r\n").unwrap(), b":7\r\n");
+        assert_eq!(combine_answers(Policy::Sum, 2, b":3\r\n:4\r\n").unwrap(), b":7\r\n");
     }
 
     #[test]
@@ -442,7 +530,11 @@ mod tests {
         (0..40).for_each(|key| request.extend_from_slice(format!("$3\r\n{key:03}\r\n").as_bytes()));
         let parts = split(&request, b"").unwrap();
         assert_eq!(
-            parts.iter().map(|(_, part)| request_len(part).unwrap()).filter(|len| len.is_some()).count(),
+            parts
+                .iter()
+                .map(|(_, part)| request_len(part).unwrap())
+                .filter(|len| len.is_some())
+                .count(),
             40
         );
         assert_eq!(combine(&request, b"", &b":1\r\n".repeat(40)).unwrap(), b":40\r\n");
@@ -452,10 +544,10 @@ mod tests {
     fn names_of_a_module() {
         let request = b"*3\r\n$9\r\nCOUNTKEYS\r\n$3\r\nfoo\r\n$3\r\nbar\r\n";
         let names = b"multi keys sum COUNTKEYS\n";
-        assert_eq!(split(request, names).unwrap().iter().count(), 2);
+        assert_eq!(split(request, names).unwrap().into_iter().count(), 2);
         assert_eq!(combine(request, names, b":1\r\n:2\r\n").unwrap(), b":3\r\n");
         let error = split(request, b"\nmulti keys sum MGET\n").unwrap_err();
-        assert_eq!((error.code, error.told.at), (19, 0));
+        assert_eq!((error.code, error.told.at), (Code::BadName, 0));
     }
 
     #[test]

@@ -1,15 +1,24 @@
-"""The routing layer from Python, by ctypes over the shared object that tools/c-archive makes.
+"""The routing layer from Python, by ctypes over the shared library for C.
 
-    pip install ./python
-    python3 -m slotroute LIBRARY
+    from slotroute import Library, request
 
-prints the split of a request, and the one reply of the replies to its parts.
+    library = Library()
+    parts = library.split(request("DEL", "foo", "bar"))
+    reply = library.combine(request("DEL", "foo", "bar"), [b":1\r\n", b":1\r\n"])
+
+Requests and replies are bytes of the Redis protocol, RESP2. The page for callers in C says what
+each call does.
 """
 
+from __future__ import annotations
+
 import ctypes
-import sys
 from ctypes import POINTER, byref, c_char, c_char_p, c_size_t, c_uint16, c_uint32, c_uint64
 from itertools import islice, pairwise
+from os import PathLike
+from typing import Any, Callable, Sequence
+
+from ._shared import library_path, processor_lacks
 
 # Codes of `Refused.answer`, kinds of `route`, policies and kinds of `redirect`, as in the header.
 DONE, NO_MEMORY, TOO_SMALL, REQUEST_INCOMPLETE, REQUEST_MALFORMED, AFTER_REQUEST = range(6)
@@ -24,51 +33,86 @@ MOVED, ASK = 1, 2
 SLOTS, NO_NODE = 16384, 65535
 BYTES_IN = [c_char_p, c_size_t]
 BYTES_OUT = [c_char_p, c_size_t]
+Data = bytes | bytearray
+Numbers = list[int] | ctypes.Array[c_uint16]
+
+if _lacking := processor_lacks():
+    raise ImportError(
+        "slotroute needs a processor of x86-64-v2; this one lacks " + ", ".join(_lacking)
+    )
 
 
 class Fields(ctypes.Structure):
-    def __repr__(self):
-        fields = ", ".join(f"{name}={getattr(self, name)}" for name, _ in self._fields_)
+    def __repr__(self) -> str:
+        fields = ", ".join(f"{it[0]}={getattr(self, it[0])}" for it in self._fields_)
         return f"{type(self).__name__}({fields})"
 
 
 class Told(Fields):
+    """Sizes that a call needs, or where a fault is."""
+
+    parts: int
+    bytes: int
+    reply: int
+    at: int
+    request: int
+    batch: int
     _fields_ = [(name, c_size_t) for name in ("parts", "bytes", "reply", "at", "request", "batch")]
 
 
 class Routed(Fields):
+    """Where a request goes: `kind` is TO_SLOT or the like, `addr` PRIMARY or the like."""
+
+    kind: int
+    slot: int
+    addr: int
+    policy: int
     _fields_ = [(name, c_uint32) for name in ("kind", "slot", "addr", "policy")]
 
 
 class Redirected(Fields):
+    """A redirect without its host: `kind` is MOVED or ASK."""
+
+    kind: int
+    slot: int
+    port: int
+    host_len: int
     _fields_ = [(name, c_uint32) for name in ("kind", "slot", "port")] + [("host_len", c_size_t)]
 
 
 class Progress(Fields):
     """How far `scan` has come in a message. A new message begins with `Progress()`."""
 
+    bytes: int
+    searched: int
+    after: int
     _fields_ = [("bytes", c_size_t), ("searched", c_size_t), ("after", c_uint64)]
 
 
 class Refused(Exception):
     """An answer that is not the one that was asked for: its number, its text, and what is told."""
 
-    def __init__(self, answer, text, told):
+    def __init__(self, answer: int, text: str, told: Told) -> None:
         super().__init__(text)
         self.answer, self.reply, self.at = answer, told.reply, told.at
         self.request, self.batch = told.request, told.batch
 
 
 class Library:
-    """The calls of the library. Requests and replies are `bytes`. `names` has lines that register a
-    module's commands, as `b"multi keys sum COUNTKEYS"`. A bad line is refused at once."""
+    """The calls of the library at `path`. Without a path it is the library in this package, that of
+    `prebuilt` in its tree, or the one that the system's loader finds. Requests and replies are
+    `bytes`. `names` has lines that register a module's commands, as `b"multi keys sum COUNTKEYS"`.
+    A bad line is refused at once.
+    """
 
-    def __init__(self, path, names=b""):
+    def __init__(self, path: str | PathLike[str] | None = None, names: Data = b"") -> None:
         self.names = bytes(names), len(names)
-        lib = self.lib = ctypes.CDLL(path)
-        told = [POINTER(Told)]
-        slots, ends = [POINTER(c_uint16), c_size_t], [POINTER(c_size_t), c_size_t]
-        for name, takes, gives in (
+        lib = self.lib = ctypes.CDLL(library_path() if path is None else str(path))
+        told: list[Any] = [POINTER(Told)]
+        slots: list[Any] = [POINTER(c_uint16), c_size_t]
+        ends: list[Any] = [POINTER(c_size_t), c_size_t]
+        calls: tuple[tuple[str, list[Any], Any], ...]
+        calls = (
             ("message", [c_uint32, *BYTES_OUT], c_size_t),
             ("version", [], c_uint32),
             ("slot", BYTES_IN, c_uint16),
@@ -82,36 +126,41 @@ class Library:
             ("table", BYTES_IN * 2 + [c_uint32, c_size_t] + slots + BYTES_OUT + told, c_uint32),
             ("split_pipeline", BYTES_IN * 2 + slots * 2 + ends * 4 + BYTES_OUT + told, c_uint32),
             ("combine_pipeline", BYTES_IN * 2 + slots + BYTES_IN + BYTES_OUT + told, c_uint32),
-            ("redirect", BYTES_IN * 2 + BYTES_OUT + [POINTER(Redirected)], c_uint32),
-        ):
+            ("redirect", [*BYTES_IN, *BYTES_IN, *BYTES_OUT, POINTER(Redirected)], c_uint32),
+        )
+        for name, takes, gives in calls:
             call = getattr(lib, "slotroute_" + name)
             call.argtypes, call.restype = takes, gives
         self.route(request("PING"))
 
-    def message(self, answer):
+    def message(self, answer: int) -> str:
+        """The text of a code."""
         text = ctypes.create_string_buffer(100)
         length = self.lib.slotroute_message(answer, text, 100)
         return text.raw[:length].decode()
 
-    def version(self):
+    def version(self) -> int:
         """The version of the library as a number: 100 for 0.1.0."""
-        return self.lib.slotroute_version()
+        return int(self.lib.slotroute_version())
 
-    def slot(self, key):
-        return self.lib.slotroute_slot(key, len(key))
+    def slot(self, key: bytes) -> int:
+        """The slot of a key."""
+        return int(self.lib.slotroute_slot(key, len(key)))
 
-    def request_len(self, data):
-        """How many bytes the first request has, or None if more are needed. A bytearray is not copied."""
+    def request_len(self, data: Data) -> int | None:
+        """The length of the first request, or None if more bytes are needed. A bytearray is not
+        copied."""
         return self._len(self.lib.slotroute_request_len, data, REQUEST_INCOMPLETE)
 
-    def reply_len(self, data):
-        """How many bytes the first reply has, or None if more are needed. A bytearray is not copied."""
+    def reply_len(self, data: Data) -> int | None:
+        """The length of the first reply, or None if more bytes are needed. A bytearray is not
+        copied."""
         return self._len(self.lib.slotroute_reply_len, data, REPLY_INCOMPLETE)
 
-    def scan(self, data, progress):
-        """How many bytes the first message has, or None if more are needed. Then call again with all
-        bytes and the same progress: it goes on where it stopped. After a whole message, begin with a
-        new `Progress()`. A bytearray is not copied."""
+    def scan(self, data: Data, progress: Progress) -> int | None:
+        """The length of the first message, or None if more bytes are needed. Then call again with
+        all bytes and the same progress: it goes on where it stopped. After a whole message, begin
+        with a new `Progress()`. A bytearray is not copied."""
         answer = self.lib.slotroute_scan(self._start(data), len(data), byref(progress))
         if answer == REPLY_INCOMPLETE:
             return None
@@ -119,10 +168,12 @@ class Library:
         return progress.bytes
 
     @staticmethod
-    def _start(data):
-        return bytes(data) if isinstance(data, bytes) or not data else byref(c_char.from_buffer(data))
+    def _start(data: Data) -> Any:
+        return (
+            bytes(data) if isinstance(data, bytes) or not data else byref(c_char.from_buffer(data))
+        )
 
-    def _len(self, call, data, incomplete):
+    def _len(self, call: Callable[..., int], data: Data, incomplete: int) -> int | None:
         told = Told()
         answer = call(self._start(data), len(data), byref(told))
         if answer == incomplete:
@@ -130,7 +181,8 @@ class Library:
         self._expect_done(answer, told)
         return told.bytes
 
-    def route(self, request, only_reads=False):
+    def route(self, request: bytes, only_reads: bool = False) -> Routed:
+        """Where a request goes. With `only_reads`, a replica may serve it."""
         routed, told = Routed(), Told()
         answer = self.lib.slotroute_route(
             request, len(request), *self.names, only_reads, byref(routed), byref(told)
@@ -138,14 +190,23 @@ class Library:
         self._expect_done(answer, told)
         return routed
 
-    def split(self, request):
+    def split(self, request: bytes) -> list[tuple[int, bytes]]:
         """The slot and the bytes of each part."""
         parts, room, told = 16, 2 * len(request) + 64, Told()
         while True:
             slots, ends = (c_uint16 * parts)(), (c_size_t * parts)()
             out = ctypes.create_string_buffer(room)
             answer = self.lib.slotroute_split(
-                request, len(request), *self.names, slots, parts, ends, parts, out, room, byref(told)
+                request,
+                len(request),
+                *self.names,
+                slots,
+                parts,
+                ends,
+                parts,
+                out,
+                room,
+                byref(told),
             )
             if answer != TOO_SMALL:
                 break
@@ -155,27 +216,33 @@ class Library:
         starts = [0, *ends[: told.parts]]
         return [(slot, data[a:b]) for slot, (a, b) in zip(slots, pairwise(starts))]
 
-    def combine(self, request, replies):
+    def combine(self, request: bytes, replies: Sequence[bytes]) -> bytes:
         """The one reply, by the replies to the parts in their order."""
-        replies = b"".join(replies)
-        data = request, len(request), *self.names, replies, len(replies)
-        return self._written(self.lib.slotroute_combine, data, len(replies) + 64)
+        joined = b"".join(replies)
+        data = request, len(request), *self.names, joined, len(joined)
+        return self._written(self.lib.slotroute_combine, data, len(joined) + 64)
 
-    def combine_answers(self, policy, replies):
-        """The one reply to a request that went whole to several nodes, by the policy of its route."""
-        count, replies = len(replies), b"".join(replies)
-        data = policy, count, replies, len(replies)
-        return self._written(self.lib.slotroute_combine_answers, data, len(replies) + 64)
+    def combine_answers(self, policy: int, replies: Sequence[bytes]) -> bytes:
+        """The one reply to a request that went whole to several nodes, by its policy."""
+        joined = b"".join(replies)
+        data = policy, len(replies), joined, len(joined)
+        return self._written(self.lib.slotroute_combine_answers, data, len(joined) + 64)
 
-    def table(self, reply, answering, addr=0, pick=0):
+    def table(
+        self, reply: bytes, answering: bytes, addr: int = PRIMARY, pick: int = 0
+    ) -> tuple[list[int], list[tuple[str, int]]]:
         """The number of each slot's node, or NO_NODE, and the host and port of each node."""
         numbers = (c_uint16 * SLOTS)()
         data = reply, len(reply), answering, len(answering), addr, pick, numbers, SLOTS
         nodes = self._written(self.lib.slotroute_table, data, len(reply) + 64)
         lines = nodes.decode().split("\n")[:-1]
-        return list(numbers), [(host, int(port)) for host, _, port in (it.rpartition(":") for it in lines)]
+        return list(numbers), [
+            (host, int(port)) for host, _, port in (it.rpartition(":") for it in lines)
+        ]
 
-    def split_pipeline(self, requests, numbers):
+    def split_pipeline(
+        self, requests: bytes, numbers: Numbers
+    ) -> tuple[list[tuple[int, list[int], bytes]], list[int]]:
         """The batches of requests that stand one after the other, and how many parts each request
         has. For each batch the number of its node, the numbers of its parts, and its bytes. Parts
         are numbered from 0, request after request. `numbers` are those of `table`, or of
@@ -183,7 +250,11 @@ class Library:
         numbers = slot_numbers(numbers)
         batches, sent, asked, room, told = 16, 16, 16, 2 * len(requests) + 64, Told()
         while True:
-            nodes, counts, ends = (c_uint16 * batches)(), (c_size_t * batches)(), (c_size_t * batches)()
+            nodes, counts, ends = (
+                (c_uint16 * batches)(),
+                (c_size_t * batches)(),
+                (c_size_t * batches)(),
+            )
             places, parts = (c_size_t * sent)(), (c_size_t * asked)()
             out = ctypes.create_string_buffer(room)
             answer = self.lib.slotroute_split_pipeline(
@@ -197,16 +268,18 @@ class Library:
         data, left = out.raw, iter(places)
         starts = [0, *ends[: told.parts]]
         own = [list(islice(left, count)) for count in counts[: told.parts]]
-        batches = [(node, them, data[a:b]) for node, them, (a, b) in zip(nodes, own, pairwise(starts))]
-        return batches, parts[: told.request]
+        made = [(node, them, data[a:b]) for node, them, (a, b) in zip(nodes, own, pairwise(starts))]
+        return made, parts[: told.request]
 
-    def combine_pipeline(self, requests, numbers, replies):
+    def combine_pipeline(
+        self, requests: bytes, numbers: Numbers, replies: Sequence[bytes]
+    ) -> bytes:
         """The replies to the requests, by the replies to the batches, batch after batch."""
-        numbers, replies = slot_numbers(numbers), b"".join(replies)
-        data = requests, len(requests), *self.names, numbers, len(numbers), replies, len(replies)
-        return self._written(self.lib.slotroute_combine_pipeline, data, len(replies) + 64)
+        numbers, joined = slot_numbers(numbers), b"".join(replies)
+        data = requests, len(requests), *self.names, numbers, len(numbers), joined, len(joined)
+        return self._written(self.lib.slotroute_combine_pipeline, data, len(joined) + 64)
 
-    def redirect(self, text, answering):
+    def redirect(self, text: bytes, answering: bytes) -> tuple[Redirected, str] | None:
         """What the text of an error tells of a redirect, with its host; None of another text."""
         told, host = Redirected(), ctypes.create_string_buffer(len(text) + len(answering) + 1)
         answer = self.lib.slotroute_redirect(
@@ -217,7 +290,7 @@ class Library:
         self._expect_done(answer, Told())
         return told, host.raw[: told.host_len].decode()
 
-    def _written(self, call, data, room):
+    def _written(self, call: Callable[..., int], data: tuple[Any, ...], room: int) -> bytes:
         """The bytes that a call writes, which is made again if they do not fit this room."""
         told = Told()
         while True:
@@ -229,46 +302,17 @@ class Library:
         self._expect_done(answer, told)
         return out.raw[: told.bytes]
 
-    def _expect_done(self, answer, told):
+    def _expect_done(self, answer: int, told: Told) -> None:
         if answer:
             raise Refused(answer, self.message(answer), told)
 
 
-def slot_numbers(numbers):
+def slot_numbers(numbers: Numbers) -> ctypes.Array[c_uint16]:
     """A table's numbers as the calls of pipelines take them."""
     return (c_uint16 * SLOTS)(*numbers) if isinstance(numbers, list) else numbers
 
 
-def request(*words):
+def request(*words: bytes | str | int) -> bytes:
     """The bytes of a request."""
-    words = [it if isinstance(it, bytes) else str(it).encode() for it in words]
-    return b"*%d\r\n" % len(words) + b"".join(b"$%d\r\n%s\r\n" % (len(it), it) for it in words)
-
-
-def main():
-    library = Library(sys.argv[1])
-    print("slot of foo:", library.slot(b"foo"))
-    asked = request("MGET", "foo", "bar", "foo")
-    for slot, part in library.split(asked):
-        print(slot, part)
-    replies = [b"*2\r\n$1\r\nx\r\n$1\r\nx\r\n", b"*1\r\n$-1\r\n"]
-    print(library.combine(asked, replies))
-    asked = request("SET", "foo", 1) + request("SET", "bar", 2) + request("MGET", "bar", "foo")
-    numbers = slot_numbers([0] * 8192 + [1] * 8192)
-    batches, _ = library.split_pipeline(asked, numbers)
-    for node, places, batch in batches:
-        print("node", node, len(places), "commands", len(batch), "bytes")
-    replies = [b"+OK\r\n*1\r\n$1\r\n1\r\n", b"+OK\r\n*1\r\n$1\r\n2\r\n"]
-    print(library.combine_pipeline(asked, numbers, replies))
-    routed = library.route(request("KEYS", "*"))
-    print(library.combine_answers(routed.policy, [b"*1\r\n$3\r\nfoo\r\n", b"*1\r\n$3\r\nbar\r\n"]))
-    told, host = library.redirect(b"MOVED 3999 127.0.0.1:6381", b"n1")
-    print("moved to", host, told.port, "slot", told.slot)
-    try:
-        library.split(request("GET", "foo"))
-    except Refused as refused:
-        print("GET foo:", refused)
-
-
-if __name__ == "__main__":
-    main()
+    encoded = [it if isinstance(it, bytes) else str(it).encode() for it in words]
+    return b"*%d\r\n" % len(encoded) + b"".join(b"$%d\r\n%s\r\n" % (len(it), it) for it in encoded)
