@@ -1,0 +1,250 @@
+/* Routing for Redis Cluster, proved: the interface for C. The code behind each function here was
+ * proved to do what docs/C.md says of it, for every input.
+ *
+ * Requests and replies are the bytes of the Redis protocol, version 2 (RESP2); a request is an
+ * array of bulk strings, as clients send it. Nothing is kept between calls: what a call needs is
+ * passed, and what it returns is written to the caller's buffers.
+ *
+ * What a caller owes, and nothing checks:
+ *  - A pointer and its length name memory that may be read (const) or read and written for the
+ *    whole call, all of it initialized. A pointer may be null if its length is 0.
+ *  - What is written overlaps nothing else that is passed.
+ *  - malloc, realloc and free are of one allocator, and align a block to each power of two up to 16
+ *    that divides its size.
+ *  - No call is made from a signal handler, nor in the forked child of a process with threads.
+ *
+ * Threads: each function may be called by any thread at any time, also at once. A call writes
+ * nothing that another sees, except to the buffers that it is passed.
+ *
+ * A call that does not return SLOTROUTE_DONE writes to no buffer. What follows the written items in
+ * a buffer stays as it was. If a call returns SLOTROUTE_TOO_SMALL, `told` has the sizes that are
+ * needed.
+ */
+#ifndef SLOTROUTE_H
+#define SLOTROUTE_H
+
+#include <stddef.h>
+#include <stdint.h>
+
+#define SLOTROUTE_VERSION "0.1.0"
+
+#ifdef __cplusplus
+extern "C" {
+#endif
+
+/* What a call returns. slotroute_message has a text for each. */
+enum {
+    SLOTROUTE_DONE = 0,
+    SLOTROUTE_NO_MEMORY = 1,
+    SLOTROUTE_TOO_SMALL = 2,          /* a buffer is too small; told says which sizes are needed */
+    SLOTROUTE_REQUEST_INCOMPLETE = 3, /* more bytes can complete the request */
+    SLOTROUTE_REQUEST_MALFORMED = 4,  /* no request can have the byte at told.at there */
+    SLOTROUTE_AFTER_REQUEST = 5,      /* bytes follow the request, which ends at told.at */
+    SLOTROUTE_NOT_MULTI_KEY = 6,      /* not a complete DEL, EXISTS, JSON.MGET, JSON.MSET, MGET,
+                                         MSET, TOUCH, UNLINK or WATCH, nor of a name in `names` */
+    SLOTROUTE_REPLY_INCOMPLETE = 7,   /* the reply of the number told.reply; so in the next three */
+    SLOTROUTE_REPLY_MALFORMED = 8,
+    SLOTROUTE_REPLY_TOO_DEEP = 9,     /* arrays are nested more than 32 deep */
+    SLOTROUTE_REPLY_IS_ERROR = 10,    /* the reply is an error, or holds one */
+    SLOTROUTE_AFTER_REPLIES = 11,     /* bytes follow the last reply, which ends at told.at */
+    SLOTROUTE_UNFIT = 12,             /* the replies do not fit the parts */
+    SLOTROUTE_NO_FORM = 13,           /* the replies of several nodes make no one reply, as of INFO */
+    SLOTROUTE_NOT_TEXT = 14,          /* a text or a host is not UTF-8 */
+    SLOTROUTE_NO_REDIRECT = 15,       /* the text is no redirect */
+    SLOTROUTE_LINE_FEED_IN_HOST = 16, /* the host of a slot's node has a line feed */
+    SLOTROUTE_NOT_ROUTABLE = 17,      /* the request of the number told.request goes to no single
+                                         slot and is not split by slot, as PING */
+    SLOTROUTE_NOT_COVERED = 18,       /* a slot of that request has no node */
+    SLOTROUTE_BAD_NAME = 19           /* the line of the number told.at, counted from 0, registers no
+                                         name */
+};
+
+/* Sizes that a call needs, or where a fault is. A call changes only fields that its code names. */
+typedef struct slotroute_told {
+    size_t parts; /* how many parts there are */
+    size_t bytes; /* how many bytes there are */
+    size_t reply; /* the number of a reply, counted from 0; or how many replies will come */
+    size_t at;    /* the index of a byte, or of a line of names, counted from 0 */
+    size_t request; /* the number of a request of a pipeline, counted from 0; or how many there are */
+    size_t batch;   /* the number of a batch of a pipeline, counted from 0 */
+} slotroute_told;
+
+/* The length of the text of a code. The text is written if it fits, with no 0 at its end. */
+size_t slotroute_message(uint32_t answer, uint8_t *text, size_t text_len);
+
+/* The version of the library that is linked, as a number: 100 for 0.1.0, 10203 for 1.2.3. */
+uint32_t slotroute_version(void);
+
+/* The slot of a key, 0 to 16383. */
+uint16_t slotroute_slot(const uint8_t *key, size_t key_len);
+
+/* Writes the length of the first request to told->bytes. Takes no memory. A number with a leading
+ * zero is malformed: a server closes the connection there. */
+uint32_t slotroute_request_len(const uint8_t *bytes, size_t bytes_len, slotroute_told *told);
+
+/* Writes the length of the first reply, which may be an error, to told->bytes. The reply is of RESP2
+ * or RESP3. Takes no memory. If the reply is at fault, told->reply is 0. */
+uint32_t slotroute_reply_len(const uint8_t *bytes, size_t bytes_len, slotroute_told *told);
+
+/* How far slotroute_scan has come in a message. */
+typedef struct slotroute_progress {
+    size_t bytes;    /* how many bytes were stepped over; after SLOTROUTE_DONE, the message's length */
+    size_t searched; /* how many bytes after those hold no end of a line */
+    uint64_t after;  /* how many items are wanted after the next one */
+} slotroute_progress;
+
+/* Looks for the end of the first message, of RESP2 or RESP3, and goes on where the last call
+ * stopped. All fields of progress are 0 for a new message. bytes begins with the message's first
+ * byte at each call, and has all bytes of the earlier calls. Takes no memory. SLOTROUTE_DONE:
+ * progress->bytes is the message's length, at least 1. SLOTROUTE_REPLY_INCOMPLETE: call again, with
+ * more bytes and the same progress. SLOTROUTE_REPLY_MALFORMED: no bytes complete the message. A
+ * request is such a message too, but slotroute_request_len is stricter. */
+uint32_t slotroute_scan(const uint8_t *bytes, size_t bytes_len, slotroute_progress *progress);
+
+/* Where a request goes. */
+enum {
+    SLOTROUTE_GOES_NOWHERE = 0, /* the layer does not route it, as SCAN, or DEL with no key */
+    SLOTROUTE_TO_ANY = 1,       /* any node */
+    SLOTROUTE_TO_ANY_PRIMARY = 2,
+    SLOTROUTE_TO_SLOT = 3,      /* slot and addr say which */
+    SLOTROUTE_TO_ALL = 4,       /* each node; policy says how the replies make one */
+    SLOTROUTE_TO_ALL_PRIMARIES = 5,
+    SLOTROUTE_TO_SLOTS = 6      /* slotroute_split splits it; slotroute_combine combines */
+};
+
+/* Which node of a slot. */
+enum { SLOTROUTE_PRIMARY = 0, SLOTROUTE_REPLICA_OPTIONAL = 1, SLOTROUTE_REPLICA = 2 };
+
+/* How the replies of several nodes make one. */
+enum {
+    SLOTROUTE_NO_POLICY = 0,
+    SLOTROUTE_ONE_SUCCEEDED = 1,
+    SLOTROUTE_FIRST_NOT_EMPTY = 2,
+    SLOTROUTE_ALL_SUCCEEDED = 3,
+    SLOTROUTE_BITS_AND = 4,
+    SLOTROUTE_BITS_OR = 5,
+    SLOTROUTE_LEAST = 6,
+    SLOTROUTE_SUM = 7,
+    SLOTROUTE_ARRAYS = 8,
+    SLOTROUTE_SPECIAL = 9,
+    SLOTROUTE_MAPS = 10
+};
+
+typedef struct slotroute_routed {
+    uint32_t kind;
+    uint32_t slot;
+    uint32_t addr;
+    uint32_t policy;
+} slotroute_routed;
+
+/* Five calls take names: a text that registers commands of a module that are split by slot, or
+ * nothing. A line has four fields, with spaces between them: multi PATTERN POLICY NAME. A name of
+ * two words takes two fields. No name is registered twice. PATTERN says how the arguments make keys:
+ * keys, pairs (a key and a value), last (keys, and one argument for all), triples. POLICY says how
+ * the replies make one: ok, sum or list. So `multi keys sum COUNTKEYS` registers a command that is
+ * split as DEL. A name of the library's tables, as MGET, is refused with SLOTROUTE_BAD_NAME. Empty
+ * lines are not counted. Each call reads the text anew. */
+
+/* Where a request goes. only_reads is not 0 if its command only reads, so that a replica may serve
+ * it. A command that names a slot by its number, as CLUSTER ADDSLOTS 5, goes to the primary either
+ * way. */
+uint32_t slotroute_route(const uint8_t *request, size_t request_len,
+                         const uint8_t *names, size_t names_len, uint32_t only_reads,
+                         slotroute_routed *routed, slotroute_told *told);
+
+/* Splits a request by slot. Part i goes to slots[i]. Its bytes, a request of its own, are those of
+ * out from ends[i - 1], or from 0, up to ends[i]. told->parts is the number of parts, and
+ * told->bytes the number of bytes. The parts are in the order of their first keys. */
+uint32_t slotroute_split(const uint8_t *request, size_t request_len,
+                         const uint8_t *names, size_t names_len,
+                         uint16_t *slots, size_t slots_len,
+                         size_t *ends, size_t ends_len,
+                         uint8_t *out, size_t out_len, slotroute_told *told);
+
+/* Writes the one reply to a request, by the replies to its parts. replies has these in the order of
+ * the parts, in whatever order they were sent. told->bytes is the length of the one reply. */
+uint32_t slotroute_combine(const uint8_t *request, size_t request_len,
+                           const uint8_t *names, size_t names_len,
+                           const uint8_t *replies, size_t replies_len,
+                           uint8_t *out, size_t out_len, slotroute_told *told);
+
+/* Writes the one reply to a request that went whole to count nodes, as KEYS. policy is that of
+ * slotroute_route. replies has the reply of each node, in the order of the nodes. The one reply may
+ * be an error of a node. A map is an array of its keys and values. told->bytes is the length of the
+ * one reply. SLOTROUTE_NO_FORM, which no other call returns: the policy is SLOTROUTE_NO_POLICY,
+ * SLOTROUTE_SPECIAL, as of INFO, or no number of a policy; or the replies do not fit the policy. If a
+ * reply is at fault, told->batch is 0. */
+uint32_t slotroute_combine_answers(uint32_t policy, size_t count,
+                                   const uint8_t *replies, size_t replies_len,
+                                   uint8_t *out, size_t out_len, slotroute_told *told);
+
+#define SLOTROUTE_SLOTS 16384u
+#define SLOTROUTE_NO_NODE 65535u
+
+/* The map of a reply to CLUSTER SLOTS as a table: numbers[slot] is the number of the slot's node,
+ * or SLOTROUTE_NO_NODE. nodes has one line HOST:PORT for each node, in the order of their numbers.
+ * told->bytes is the length of the lines. told->parts is SLOTROUTE_SLOTS, the room that numbers
+ * needs. answering is the host of the node that replied, for hosts that the reply leaves out. addr
+ * is SLOTROUTE_PRIMARY, or another number for the replica at pick modulo their count, or the
+ * primary if there is none. A look-up is numbers[slotroute_slot(key, key_len)]. */
+uint32_t slotroute_table(const uint8_t *reply, size_t reply_len,
+                         const uint8_t *answering, size_t answering_len,
+                         uint32_t addr, size_t pick,
+                         uint16_t *numbers, size_t numbers_len,
+                         uint8_t *nodes, size_t nodes_len, slotroute_told *told);
+
+/* Splits a pipeline of requests into one batch for each node. numbers is a table of
+ * slotroute_table. Batch i goes to the node of the number nodes[i], which has to run its commands
+ * in order and returns counts[i] replies. Its bytes are those of out from ends[i - 1], or from 0,
+ * up to ends[i]. told->parts is the number of batches, and told->bytes the number of bytes. Each
+ * command goes to the slot of its first key, or is one that slotroute_split splits. If a request is at
+ * fault, told->request is its number.
+ *
+ * A request that is split has as many parts as slotroute_split makes of it, and another request is one
+ * part. Parts are numbered from 0, request after request. parts[i] is how many request i has. Reply
+ * i, counted from the first reply to batch 0, answers the part places[i]. told->reply is how many
+ * replies will come, and told->request how many requests there are. */
+uint32_t slotroute_split_pipeline(const uint8_t *requests, size_t requests_len,
+                                  const uint8_t *names, size_t names_len,
+                                  const uint16_t *numbers, size_t numbers_len,
+                                  uint16_t *nodes, size_t nodes_len,
+                                  size_t *counts, size_t counts_len,
+                                  size_t *ends, size_t ends_len,
+                                  size_t *places, size_t places_len,
+                                  size_t *parts, size_t parts_len,
+                                  uint8_t *out, size_t out_len, slotroute_told *told);
+
+/* Writes the replies to the requests of a pipeline, by the replies to its batches. replies has
+ * these batch after batch, in whatever order the batches were sent. names and numbers have to be as
+ * they were for the split. An error is the reply to its command, or to the command whose part it answers.
+ * told->bytes is the length of the replies. If a reply is at fault, told->batch is the number of
+ * its batch and told->reply its number there. */
+uint32_t slotroute_combine_pipeline(const uint8_t *requests, size_t requests_len,
+                                    const uint8_t *names, size_t names_len,
+                                    const uint16_t *numbers, size_t numbers_len,
+                                    const uint8_t *replies, size_t replies_len,
+                                    uint8_t *out, size_t out_len, slotroute_told *told);
+
+/* A redirect, without its host. */
+enum { SLOTROUTE_MOVED = 1, SLOTROUTE_ASK = 2 };
+
+typedef struct slotroute_redirected {
+    uint32_t kind; /* SLOTROUTE_MOVED, or SLOTROUTE_ASK: this request alone, after ASKING */
+    uint32_t slot;
+    uint32_t port;
+    size_t host_len;
+} slotroute_redirected;
+
+/* Reads the text of an error, as MOVED 3999 127.0.0.1:6381: the reply without its mark and its
+ * line's end. answering is the host of the node that sent the error, for a text without a host. A
+ * text whose host is `?` is no redirect. host gets the host, and redirected the rest.
+ * redirected is set also if the buffer is too small. */
+uint32_t slotroute_redirect(const uint8_t *text, size_t text_len,
+                            const uint8_t *answering, size_t answering_len,
+                            uint8_t *host, size_t host_len, slotroute_redirected *redirected);
+
+#ifdef __cplusplus
+}
+#endif
+
+#endif
