@@ -12,7 +12,6 @@ from common import (
     TARGET,
     copy_tracked,
     epoch,
-    link,
     note,
     put,
     run,
@@ -94,7 +93,9 @@ def make_crate(prefix, room, out):
 
 
 def write_prebuilt(prefix, folder):
-    """What ./slotroute, the proxy, the wheel and the crate take where no prefix is named."""
+    """What ./slotroute, the proxy, the wheel and the crate take where no prefix is named. It has no
+    symbolic link, since a tree may be copied by what keeps none: so the name libslotroute.so, which
+    a linker looks for first, is not there."""
     for name in (
         "include/slotroute.h",
         "lib/libslotroute.a",
@@ -103,5 +104,3 @@ def write_prebuilt(prefix, folder):
     ):
         put(prefix / name, folder / name)
     put(prefix / "bin" / "slotroute", folder / "bin" / "slotroute", 0o755)
-    (folder / "lib" / "libslotroute.so").unlink(missing_ok=True)
-    link(SHARED, folder / "lib" / "libslotroute.so")
