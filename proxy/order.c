@@ -93,7 +93,7 @@ static bool step(client *client, uint16_t slot) {
         return false;
     const node *lost = out_of_reach(first);
     if (lost != NULL) {
-        part_fail_at(first.request, first.part, lost, false);
+        part_fail_at(first.request, first.part, lost, lost->why, false);
         return true;
     }
     if (part_at(first)->state == PART_HELD) {

@@ -111,11 +111,13 @@ void part_fail(request *it, uint32_t at, const char *text) {
     buffer_free(&error);
 }
 
-void part_fail_at(request *it, uint32_t at, const node *node, bool was_sent) {
+void part_fail_at(request *it, uint32_t at, const node *node, const char *why, bool was_sent) {
     char text[HOST_ROOM + 256];
-    snprintf(text, sizeof text, "ERR node %s:%u: %s; %s %s", node->host, node->port, node->why,
+    snprintf(text, sizeof text, "ERR node %s:%u: %s; %s %s", node->host, node->port, why,
              it->parts > 1 ? "its part of the command" : "the command",
              was_sent ? "may have taken effect" : "did not take effect");
+    if (was_sent)
+        figure_add(&it->client->worker->stats.counts[COUNT_UNKNOWN_END], 1);
     part_fail(it, at, text);
 }
 
@@ -172,9 +174,7 @@ void part_lost(request *it, uint32_t at, node *lost_at, bool was_sent) {
         part_hold(it, at, PART_AGAIN);
         return;
     }
-    if (fate == FATE_UNSURE)
-        figure_add(&worker->stats.counts[COUNT_UNKNOWN_END], 1);
-    part_fail_at(it, at, lost_at, was_sent);
+    part_fail_at(it, at, lost_at, lost_at->why, was_sent);
     if (client->held > 0)
         slot_advance(client, slot);
 }

@@ -48,9 +48,9 @@ bool redirect_follow(request *request, uint32_t part, node *from, const uint8_t 
     bool is_redirect = begins(error, len, "-MOVED ") || begins(error, len, "-ASK ");
     if (!is_redirect || !layer_redirect(error, len, from->host, &found) || found.to.slot != it->slot)
         return false;
-    if (request->is_script && request->queued == 0) { /* the script may say so, and of any host */
+    if (request->is_script && request->queued == 0) { /* the script may say so, after it took effect */
         topology_want(worker);
-        part_fail(request, part, "TRYAGAIN the slot of the script's keys is moving, or the script says so");
+        part_fail_at(request, part, from, "the slot of the keys is moving, or the script says so", true);
         return true;
     }
     if (!part_may_try(request, part)) {

@@ -45,8 +45,9 @@ void part_fail(request *request, uint32_t part, const char *text);
 typedef enum part_fate { FATE_NOBODY, FATE_AGAIN, FATE_NO_EFFECT, FATE_UNSURE, FATES } part_fate;
 part_fate part_fate_of(const request *request, bool was_sent);
 
-/* A part is done with an error that names a node. `was_sent`: the node may have read some of it. */
-void part_fail_at(request *request, uint32_t part, const node *node, bool was_sent);
+/* A part is done with an error that names a node, and says why. `was_sent`: the node may have read some of
+ * it, so the part may have taken effect. */
+void part_fail_at(request *request, uint32_t part, const node *node, const char *why, bool was_sent);
 
 /* Writes the replies to the requests that are complete, in their order. */
 void requests_answer(client *client);

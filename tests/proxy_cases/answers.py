@@ -317,22 +317,24 @@ def try_selected():
 
 
 def try_forged():
-    """A script that makes up a redirect moves no slot: the others go on, and no other host is asked."""
-    client, asked = Client(), []
+    """A script that makes up a redirect runs once, and the error says that it may have taken effect. No slot moves, and no other host is asked."""
+    client, before, asked = Client(), figures(), []
     client.ask("SET", "foo", "1")
     with socket.create_server(("127.0.0.1", FAKE)) as host:
         host.settimeout(1)
         for kind in ("MOVED", "ASK"):
-            script = f"return redis.error_reply('{kind} {slot_of('foo')} 127.0.0.1:{FAKE}')"
-            asked.append(client.ask("EVAL", script, "1", "foo")[:9])
+            script = f"redis.call('INCR', KEYS[1]) return redis.error_reply('{kind} {slot_of('foo')} 127.0.0.1:{FAKE}')"
+            asked.append(client.ask("EVAL", script, "1", "foo"))
         found = Client().ask("GET", "foo")
         try:
             host.accept()
             asked.append("the host was asked")
         except TimeoutError:
             pass
-    print(asked, found)
-    return asked == ["-TRYAGAIN"] * 2 and found == b"1"
+    unsure = figures()["unknown_ends_total"] - before["unknown_ends_total"]
+    print(asked, found, unsure)
+    are_told = [it.startswith("-ERR node 127.0.0.1:") and it.endswith("; the command may have taken effect") for it in asked]
+    return are_told == [True] * 2 and found == b"3" and unsure == 2
 
 
 def try_group():
