@@ -1,7 +1,7 @@
-//! Links the static library. It is the first of these that is there: that of SLOTROUTE_PREFIX/lib,
-//! that of pkg-config, that inside this crate, and that of `prebuilt` in the tree. A relative
-//! SLOTROUTE_PREFIX counts from the folder where cargo was called, as PWD has it, or else from the
-//! folder of this crate.
+//! Links the static library. If SLOTROUTE_PREFIX is set, it is that of SLOTROUTE_PREFIX/lib.
+//! Otherwise it is the first of these that is there: that of pkg-config, that inside this crate,
+//! and that of `prebuilt` in the tree. A relative SLOTROUTE_PREFIX counts from the folder where
+//! cargo was called, as PWD has it, or else from the folder of this crate.
 
 use std::env;
 use std::path::{Path, PathBuf};
