@@ -3,9 +3,11 @@ use Rattle.std.proofs.Common.{◌≡◌, ℕ, zero, suc, ◌+◌, ◌-◌, ◌<�
 use Rattle.std.specs.Prelude.{nat_eq}
 use Rattle.std.specs.List.{list_any, flat_map, range_with_len, position_or_len, AllByRecursion, IsDistinct}
 use Rattle.std.proofs.lemmas.Bool.{eqb-true}
+use Rattle.std.proofs.lemmas.Map.Steps.{length-le_from_distinct_below}
 use Rattle.std.proofs.lemmas.List.{append-nil, length-map, get_or-map, map-set}
 use Rattle.std.proofs.lemmas.Simd.{map-map}
 use Rattle.std.proofs.lemmas.Grind.{common_steps}
+use Rattle.cluster_slots.specs.KeySlot.{key_slot}
 use Rattle.cluster_slots.specs.SlotRoute.{SlotRoute}
 use Rattle.cluster_slots.specs.declared.slot.SlotAddr.{SlotAddr}
 use Rattle.cluster_slots.specs.ArgPattern.{tuple_args_count}
@@ -47,6 +49,18 @@ any_left s n (x ∷ xs) apart = grind (arith, common_steps, any_left s n xs apar
 any_first : (s : ℕ) (ns : List ℕ) → list_any (nat_eq s) (first_appearances ns) ≡ list_any (nat_eq s) ns
 any_first s [] = refl
 any_first s (n ∷ ns) = grind (arith, by_test, any_left, any_first s ns)
+
+any_below : (s : ℕ) (ts : List Tuple) → list_any (nat_eq s) (map slot_of ts) ≡ true → s < 16384
+unfolding key_slot
+any_below s [] h = absurd (cc h)
+any_below s (t ∷ ts) h = by_test (nat_eq s (slot_of t)) (λ same. rw (eqb-true s (slot_of t) same) (omega arith)) (λ other. any_below s ts (rw other at h))
+
+-- there are no more lists than slots
+pub few_lists : (nodes : SlotAddr) (ts : List Tuple) → length (lists_of_tuples nodes ts) ≤ 16384
+few_lists nodes ts =
+    let few : length (first_appearances (map slot_of ts)) ≤ 16384 =
+    length-le_from_distinct_below (first_appearances (map slot_of ts)) 16384 (distinct_firsts (map slot_of ts)) (λ s there. any_below s ts (sym (any_first s (map slot_of ts)) ∙ there)) in
+    rw length-map few
 
 none_in_slot : (s : ℕ) (ts : List Tuple) → list_any (nat_eq s) (map slot_of ts) ≡ false → flat_map places_of (tuples_in_slot s ts) ≡ []
 none_in_slot s [] none = refl

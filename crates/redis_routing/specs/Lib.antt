@@ -26,6 +26,7 @@ pub mod Groups
 pub mod Inner
 pub mod Laws
 pub mod Parts
+pub mod Routed
 pub mod Routing
 pub mod RoutingInfo
 pub mod CommandSlot

@@ -1,5 +1,5 @@
 -- Where a command goes: a `RoutingInfo` as plain data.
-use Rattle.std.specs.Prelude.{ℕ, List, Option, None, Some, map, string_bytes}
+use Rattle.std.specs.Prelude.{ℕ, List, Option, None, Some, map, option_map, string_bytes}
 use Rattle.std.specs.declared.vec.Vec.{Vec}
 use Rattle.std.specs.declared.alloc.Global.{Global}
 use Rattle.cluster_slots.specs.SlotRoute.{SlotRoute}
@@ -34,6 +34,10 @@ pub data Routing : Type 0 where
 abbrev pub specific_or_random : Option SlotRoute → SingleNodeRouting
 specific_or_random None = random
 specific_or_random (Some route) = specific_node route
+
+-- to one node of the route, or to any where there is none, if the command goes to one
+abbrev pub one_node : Option (Option SlotRoute) → Option Routing
+one_node node = option_map (λ route. single_node (specific_or_random route)) node
 
 -- a route and the places of its part
 abbrev pub route_list : SlotRoute × Vec ℕ Global → SlotRoute × List ℕ

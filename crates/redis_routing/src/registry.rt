@@ -3,7 +3,7 @@ ghost use Rattle.std.specs.Str.{bytes_eq};
 ghost use Rattle.std.specs.Cmp.Rules.{comparing};
 ghost use Rattle.std.proofs.Common.{rules};
 ghost use Rattle.redis_routing.specs.Lookup.{lookup_name};
-ghost use Rattle.redis_routing.specs.MultiKeyNames.{split_of};
+ghost use Rattle.redis_routing.specs.MultiKeyNames.{TellsSplit, split_of};
 ghost use Rattle.redis_routing.specs.NameTables.{default_tables};
 ghost use Rattle.redis_routing.specs.Policies.{joins_parts};
 ghost use Rattle.redis_routing.specs.Refusal.{register_error};
@@ -175,18 +175,15 @@ impl Registry {
     /// are split by slot.
     pub fn pattern_and_policy(&self, name: &[u8]) -> Option<(MultiSlotArgPattern, ResponsePolicy)>
         ensures found { result ≡ split_of self.now name.now }
-        // The nine rows agree with the tables of all names.
         ensures pattern { option_map (λ found. found.0) result
             ≡ pattern_of ((tables_with self.now).route_by name.now) }
         ensures policy { IfSome result (λ found. Some found.1
             ≡ (tables_with self.now).policy name.now) }
         ensures joins { IfSome result (λ found. joins_parts found.1 ≡ true) }
     {
-        // The invariant: no name of the tables is registered.
-        let _rows = &self.rows;
-        let (route_by, policy) = routing_and_policy(name);
+        let (route_by, policy) = self.routing_and_policy(name);
         let Some(route_by) = route_by else {
-            return self.get(name);
+            return None;
         };
         let RouteBy::MultiSlot(pattern) = route_by else {
             return None;
@@ -200,7 +197,11 @@ impl Registry {
     pub fn routing_and_policy(&self, name: &[u8]) -> (Option<RouteBy>, Option<ResponsePolicy>)
         ensures routing { result.0 ≡ (tables_with self.now).route_by name.now }
         ensures policy { result.1 ≡ (tables_with self.now).policy name.now }
+        // The nine rows agree with the tables of all names.
+        ensures split { TellsSplit (split_of self.now name.now) result.0 result.1 }
     {
+        // The invariant: no name of the tables is registered.
+        let _rows = &self.rows;
         let (routing, policy) = routing_and_policy(name);
         if routing.is_some() {
             return (routing, policy);

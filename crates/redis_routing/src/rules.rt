@@ -1,22 +1,21 @@
 ghost use Rattle.std.specs.Prelude.{◌≡◌, ◌<◌, ◌^◌, ◌+◌, IfOk, [], Some, option_map, option_copied, unwrap_or, codes, position};
-ghost use Rattle.redis_routing.specs.Command.{Arguments, IsRespelt, argument, command_name, is_word};
+ghost use Rattle.redis_routing.specs.Command.{Arguments, IsRespelt, argument, is_word};
 ghost use Rattle.redis_routing.specs.Laws.{Covers, ArePartsPicked, ArePartsRouted, IfSplit};
-ghost use Rattle.redis_routing.specs.ReadOnly.{is_among};
-ghost use Rattle.redis_routing.specs.RoutingInfo.{as_routing, as_multiple_nodes, random, single_node, multi_node, specific_node};
+ghost use Rattle.redis_routing.specs.Routed.{group_nodes};
+ghost use Rattle.redis_routing.specs.RoutingInfo.{as_routing, multi_node, one_node};
 ghost use Rattle.redis_routing.specs.Names.{names_of};
 ghost use Rattle.redis_routing.specs.NameWords.{name_words_of};
-ghost use Rattle.redis_routing.specs.Routing.{routing, routing_by, to_key, to_key_or_any, to_key_after, to_slot, by_count, argument_number};
+ghost use Rattle.redis_routing.specs.Routing.{routing, routing_of_routes, to_key, to_key_or_any, to_key_after, to_slot, by_count, argument_number};
 ghost use Rattle.redis_routing.specs.PresentArguments.{present_arguments};
-ghost use Rattle.redis_routing.specs.Registry.{tables_with};
 
-use super::info::{MultipleNodeRoutingInfo, RoutingInfo, SingleNodeRoutingInfo, nodes_for};
-use super::splitting::{by_slots, words_of};
+use super::info::{MultipleNodeRoutingInfo, RoutingInfo, nodes_for};
+use super::routed::{NodeGroup, Routed};
+use super::split_command::SplitCommand;
+use super::splitting::routing_of_routes;
 use crate::policy::ResponsePolicy;
 use crate::read_only::ReadOnlyNames;
 use crate::registry::Registry;
 use crate::routable::Routable;
-use crate::route_by::{RouteBy, routing_and_policy};
-use crate::words::{ROOM, short_name};
 use cluster_slots::{Route, Slot, SlotAddr, parse_u16, parse_u64};
 use std::alloc::{AllocError, Global};
 
@@ -98,8 +97,7 @@ impl RoutingInfo {
     }
 }
 
-/// Where a command goes by the tables, and by a registry if there is one. A name takes memory
-/// only where it is longer than each name of the tables.
+/// Where a command goes by the tables, and by a registry if there is one.
 fn for_command<R: Routable>(
     alloc: Global,
     command: &R,
@@ -110,146 +108,65 @@ fn for_command<R: Routable>(
         ≡ routing (names_of read_only.now (unwrap_or (option_copied registry.entry) []))
         (R.args command.now)) }
 {
-    let mut room = [0; ROOM];
-    // One call for both names, so that the route is made in place and not copied.
-    let short = short_name(command, &mut room);
-    let long = match short {
-        Some(_) => None,
-        None => command.command(alloc)?,
-    };
-    let name = match (short, &long) {
-        (Some(len), _) => &room[..len],
-        (None, Some(name)) => name.as_slice(),
-        (None, None) => return Ok(None),
-    };
-    by_name(alloc, command, name, read_only, registry)
-}
-
-/// Where a command of the name goes by the tables, and by a registry if there is one.
-fn by_name<R: Routable>(
-    alloc: Global,
-    command: &R,
-    name: &[u8],
-    read_only: &ReadOnlyNames,
-    registry: Option<&Registry>,
-) -> Result<Option<RoutingInfo>, AllocError>
-    requires name { Some name.now ≡ command_name (R.args command.now) }
-    ensures { IfOk result (λ info. option_map as_routing info
-        ≡ routing (names_of read_only.now (unwrap_or (option_copied registry.entry) []))
-        (R.args command.now)) }
-{
-    let (route_by, policy) = looked_up(name, registry);
-    for_name(alloc, command, name, read_only, route_by, policy)
-}
-
-/// How the name is routed, and its policy, by the tables, and by a registry if there is one.
-fn looked_up(name: &[u8], registry: Option<&Registry>) -> (Option<RouteBy>, Option<ResponsePolicy>)
-    ensures routing { result.0
-        ≡ (tables_with (unwrap_or (option_copied registry.entry) [])).route_by name.now }
-    ensures policy { result.1
-        ≡ (tables_with (unwrap_or (option_copied registry.entry) [])).policy name.now }
-{
-    match registry {
-        Some(registry) => registry.routing_and_policy(name),
-        None => routing_and_policy(name),
+    match Routed::by_tables(alloc, command, read_only, registry)? {
+        Routed::Nowhere => Ok(None),
+        Routed::One(node) => Ok(Some(RoutingInfo::SingleNode(node))),
+        Routed::Several(nodes, policy) => Ok(Some(to_several(nodes, policy))),
+        Routed::Slots(split) => Ok(Some(to_slots(split))),
     }
 }
 
-/// Where a command of the name goes, by how the name is routed and by its policy.
-fn for_name<R: Routable>(
-    alloc: Global,
-    command: &R,
-    name: &[u8],
-    read_only: &ReadOnlyNames,
-    route_by: Option<RouteBy>,
-    policy: Option<ResponsePolicy>,
-) -> Result<Option<RoutingInfo>, AllocError>
-    requires name { Some name.now ≡ command_name (R.args command.now) }
-    ensures { IfOk result (λ info. option_map as_routing info
-        ≡ routing_by policy (is_among read_only.now name.now) (R.args command.now) route_by) }
+fn to_several(nodes: NodeGroup, policy: Option<ResponsePolicy>) -> RoutingInfo
+    ensures { as_routing result ≡ multi_node (group_nodes nodes) policy }
 {
-    let Some(route_by) = route_by else {
-        return Ok(to_key_or_any(command.arg_idx(1), read_only.contains(name)));
+    let nodes = match nodes {
+        NodeGroup::AllNodes => MultipleNodeRoutingInfo::AllNodes,
+        NodeGroup::AllMasters => MultipleNodeRoutingInfo::AllMasters,
     };
-    Ok(match route_by {
-        RouteBy::AllNodes => Some(to_several(MultipleNodeRoutingInfo::AllNodes, policy)),
-        RouteBy::AllMasters => Some(to_several(MultipleNodeRoutingInfo::AllMasters, policy)),
-        RouteBy::MultiSlot(pattern) => {
-            let words = words_of(command, name);
-            by_slots(
-                alloc,
-                command,
-                words,
-                pattern,
-                policy,
-                read_only.contains(name),
-            )?
-        }
-        RouteBy::Undefined => None,
-        RouteBy::CountAt(place) => {
-            by_count(command, usize::from(place), read_only.contains(name))
-        }
-        RouteBy::KeyAt(place) => {
-            let key = command.arg_idx(usize::from(place));
-            to_key(key, read_only.contains(name))
-        }
-        RouteBy::KeyAfterStreams => after_streams(command, read_only.contains(name)),
-        RouteBy::Random => Some(to_any()),
-        RouteBy::SlotAt(place) => to_slot(command.arg_idx(usize::from(place))),
-    })
-}
-
-fn to_any() -> RoutingInfo
-    ensures { as_routing result ≡ single_node random }
-{
-    RoutingInfo::SingleNode(SingleNodeRoutingInfo::Random)
-}
-
-fn to_several(nodes: MultipleNodeRoutingInfo, policy: Option<ResponsePolicy>) -> RoutingInfo
-    ensures { as_routing result ≡ multi_node (as_multiple_nodes nodes) policy }
-{
     RoutingInfo::MultiNode((nodes, policy))
 }
 
-fn to_specific_node(route: Route) -> RoutingInfo
-    ensures { as_routing result ≡ single_node (specific_node route) }
+/// To one node if there is one route, and else to the node of each route.
+fn to_slots<R: Routable>(split: SplitCommand<'_, R>) -> RoutingInfo
+    ensures { as_routing result ≡ routing_of_routes split.entry.pattern (Some split.entry.policy)
+        split.entry.routes }
 {
-    RoutingInfo::SingleNode(SingleNodeRoutingInfo::SpecificNode(route))
+    let policy = Some(split.policy);
+    routing_of_routes(split.routes, split.pattern, policy)
 }
 
-/// To the slot of the key, if there is one.
-fn to_key(key: Option<&[u8]>, reads: bool) -> Option<RoutingInfo>
-    ensures { option_map as_routing result ≡ to_key reads (option_copied key.entry) }
+/// To a node of the key's slot, if there is a key. In this result and those below, no route stands
+/// for any node.
+pub(super) fn to_key(key: Option<&[u8]>, reads: bool) -> Option<Option<Route>>
+    ensures { one_node result ≡ to_key reads (option_copied key.entry) }
 {
-    Some(to_specific_node(Route::with_key(key?, nodes_for(reads))))
+    Some(Some(Route::with_key(key?, nodes_for(reads))))
 }
 
-fn to_key_or_any(key: Option<&[u8]>, reads: bool) -> Option<RoutingInfo>
-    ensures { option_map as_routing result ≡ to_key_or_any reads (option_copied key.entry) }
+pub(super) fn to_key_or_any(key: Option<&[u8]>, reads: bool) -> Option<Option<Route>>
+    ensures { one_node result ≡ to_key_or_any reads (option_copied key.entry) }
 {
     match key {
         Some(_) => to_key(key, reads),
-        None => Some(to_any()),
+        None => Some(None),
     }
 }
 
 /// By the count of keys at a place and the first key after it.
-fn by_count<R: Routable>(command: &R, place: usize, reads: bool) -> Option<RoutingInfo>
+pub(super) fn by_count<R: Routable>(command: &R, place: usize, reads: bool) -> Option<Option<Route>>
     requires { place < 2 ^ 16 }
-    ensures { option_map as_routing result
-        ≡ by_count reads (argument_number 64 (argument (R.args command.now) place))
+    ensures { one_node result ≡ by_count reads (argument_number 64 (argument (R.args command.now) place))
         (argument (R.args command.now) (place + 1)) }
 {
     let count = parse_u64(command.arg_idx(place)?)?;
     if count == 0 {
-        return Some(to_any());
+        return Some(None);
     }
     to_key(command.arg_idx(place + 1), reads)
 }
 
-fn after_streams<R: Routable>(command: &R, reads: bool) -> Option<RoutingInfo>
-    ensures { option_map as_routing result
-        ≡ to_key_after reads (R.args command.now)
+pub(super) fn after_streams<R: Routable>(command: &R, reads: bool) -> Option<Option<Route>>
+    ensures { one_node result ≡ to_key_after reads (R.args command.now)
         (position (is_word (codes "STREAMS")) (R.args command.now)) }
 {
     let place = command.position(b"STREAMS")?;
@@ -257,10 +174,9 @@ fn after_streams<R: Routable>(command: &R, reads: bool) -> Option<RoutingInfo>
 }
 
 /// To the primary of the slot that the argument writes.
-fn to_slot(number: Option<&[u8]>) -> Option<RoutingInfo>
-    ensures { option_map as_routing result
-        ≡ to_slot (argument_number 16 (option_copied number.entry)) }
+pub(super) fn to_slot(number: Option<&[u8]>) -> Option<Option<Route>>
+    ensures { one_node result ≡ to_slot (argument_number 16 (option_copied number.entry)) }
 {
     let slot = Slot::new(parse_u16(number?)?)?;
-    Some(to_specific_node(Route::with_slot(slot, SlotAddr::Master)))
+    Some(Some(Route::with_slot(slot, SlotAddr::Master)))
 }

@@ -6,12 +6,11 @@ ghost use Rattle.redis_routing.specs.Policies.{joins_parts};
 ghost use Rattle.redis_routing.specs.Split.{Split, IsSplit, route_part, policy_by_name};
 ghost use Rattle.redis_routing.specs.RoutingInfo.{route_lists};
 
-use super::splitting::{present_len, routes_by_slot, words_of};
+use super::routed::Routed;
 use super::sub_commands::sub_command;
 use crate::names::Names;
 use crate::policy::ResponsePolicy;
 use crate::routable::Routable;
-use crate::words::{ROOM, short_name};
 use cluster_slots::{MultiSlotArgPattern, Route};
 use resp_core::Cmd;
 use std::alloc::{AllocError, Global};
@@ -24,11 +23,11 @@ use std::marker::Model;
 /// of `baz`. The part of route 1 is `DEL bar {bar}vaz`, and the replies are added up.
 #[derive(Drop)]
 pub struct SplitCommand<'a, R: Routable> {
-    command: &'a R,
-    words: usize,
-    routes: Vec<(Route, Vec<usize>)>,
-    pattern: MultiSlotArgPattern,
-    policy: ResponsePolicy,
+    pub(super) command: &'a R,
+    pub(super) words: usize,
+    pub(super) routes: Vec<(Route, Vec<usize>)>,
+    pub(super) pattern: MultiSlotArgPattern,
+    pub(super) policy: ResponsePolicy,
 }
 
 impl<'a, R: Routable> Model for SplitCommand<'a, R> {
@@ -73,50 +72,10 @@ impl<'a, R: Routable> SplitCommand<'a, R> {
         ensures policy { IfOk result (λ split. IfSome split (λ s. Some s.policy
             ≡ policy_by_name names.entry.registry.now (command_name (R.args command.now)))) }
     {
-        let mut room = [0; ROOM];
-        if let Some(len) = short_name(command, &mut room) {
-            return Self::named(alloc, command, &room[..len], names);
+        match Routed::new(alloc, command, names)? {
+            Routed::Slots(split) => Ok(Some(split)),
+            _ => Ok(None),
         }
-        match command.command(alloc)? {
-            Some(name) => Self::named(alloc, command, &name, names),
-            None => Ok(None),
-        }
-    }
-
-    /// Splits a command of the name, as `new` has it.
-    fn named(
-        alloc: Global,
-        command: &'a R,
-        name: &[u8],
-        names: Names<'_>,
-    ) -> Result<Option<Self>, AllocError>
-        requires { Some name.now ≡ command_name (R.args command.now) }
-        ensures routes { IfOk result (λ split. option_map (λ s. s.routes) split
-            ≡ multi_slot_routes (names_in names.entry) (R.args command.now)) }
-        ensures arguments { IfOk result (λ split. IfSome split (λ s. s.arguments
-            ≡ R.args command.now)) }
-        ensures pattern { IfOk result (λ split. IfSome split (λ s. Some s.pattern
-            ≡ pattern_by_name names.entry.registry.now (command_name (R.args command.now)))) }
-        ensures policy { IfOk result (λ split. IfSome split (λ s. Some s.policy
-            ≡ policy_by_name names.entry.registry.now (command_name (R.args command.now)))) }
-    {
-        let Some((pattern, policy)) = names.registry.pattern_and_policy(name) else {
-            return Ok(None);
-        };
-        let words = words_of(command, name);
-        let count = present_len(command, words);
-        if !pattern.is_complete(count) {
-            return Ok(None);
-        }
-        let reads = names.read_only.contains(name);
-        let routes = routes_by_slot(alloc, command, words, pattern, count, reads)?;
-        Ok(Some(SplitCommand {
-            command,
-            words,
-            routes,
-            pattern,
-            policy,
-        }))
     }
 
     /// The routes: one for each slot of a key, by the first key of each slot, with the indices of

@@ -1,14 +1,14 @@
-ghost use Rattle.std.specs.Prelude.{◌≡◌, ◌<◌, ◌^◌, ◌+◌, ◌-◌, ◌++◌, [], Some, length, nat_eq, IfOk, IfSome, OnOk, option_map};
+ghost use Rattle.std.specs.Prelude.{◌≡◌, ◌<◌, ◌≤◌, ◌^◌, ◌+◌, ◌-◌, ◌++◌, [], Some, length, nat_eq, IfOk, OnOk};
 ghost use Rattle.std.specs.List.{position_or_len, range_with_len};
 ghost use Rattle.cluster_slots.specs.ArgPattern.{tuple_args_count};
 ghost use Rattle.indexmap.specs.IndexSet.{insert_key};
 ghost use Rattle.redis_routing.specs.Inner.SlotPages.{AreNumbered};
 ghost use Rattle.redis_routing.specs.Groups.{lists_of_tuples, with_places, with_shared};
 ghost use Rattle.redis_routing.specs.RoutingInfo.{as_routing, route_lists};
-ghost use Rattle.redis_routing.specs.Routing.{to_slots, routes_of, routing_of_routes};
+ghost use Rattle.redis_routing.specs.Routing.{routes_of, routing_of_routes};
 ghost use Rattle.redis_routing.specs.Command.{command_name};
 ghost use Rattle.redis_routing.specs.NameWords.{name_words_of};
-ghost use Rattle.redis_routing.specs.PresentArguments.{present_arguments, present_arguments_after};
+ghost use Rattle.redis_routing.specs.PresentArguments.{present_arguments_after};
 ghost use Rattle.redis_routing.specs.Split.{slots_of};
 ghost use Rattle.redis_routing.specs.Tuples.{tuples_in};
 
@@ -32,28 +32,6 @@ pub(super) fn words_of<R: Routable>(command: &R, name: &[u8]) -> usize
         Some(first) if first.len() < name.len() => 2,
         _ => 1,
     }
-}
-
-/// The routing to the slots of a command's keys, which follow a name of `words` words. `None` if the
-/// arguments don't make whole tuples.
-pub(super) fn by_slots<R: Routable>(
-    alloc: Global,
-    command: &R,
-    words: usize,
-    pattern: MultiSlotArgPattern,
-    policy: Option<ResponsePolicy>,
-    reads: bool,
-) -> Result<Option<RoutingInfo>, AllocError>
-    requires words { words ≡ name_words_of (R.args command.now) }
-    ensures { IfOk result (λ info. option_map as_routing info
-        ≡ to_slots reads policy pattern (present_arguments (R.args command.now))) }
-{
-    let count = present_len(command, words);
-    if !pattern.fits(count) {
-        return Ok(None);
-    }
-    let routes = routes_by_slot(alloc, command, words, pattern, count, reads)?;
-    Ok(Some(routing_of_routes(routes, pattern, policy)))
 }
 
 /// The routes of a command's `count` arguments after a name of `words` words. They make whole tuples.
@@ -131,6 +109,7 @@ fn add(
     width: usize,
 ) -> Result<(), AllocError>
     requires fits { place + width < 2 ^ 64 }
+    requires few { length lists.old.items ≤ 16384 }
     requires slots { AreNumbered pages.old (slots_of (route_lists lists.old.items)) }
     ensures lists { OnOk result (route_lists lists.new.items
         ≡ with_places route (range_with_len place width) (route_lists lists.old.items)) }
@@ -152,6 +131,7 @@ fn list_index(
     pages: &mut SlotPages,
     slot: u16,
 ) -> Result<usize, AllocError>
+    requires few { length lists.now ≤ 16384 }
     requires slots { AreNumbered pages.old (slots_of (route_lists lists.now)) }
     ensures index { IfOk result (λ index. index
         ≡ position_or_len (nat_eq slot) (slots_of (route_lists lists.now))) }
@@ -160,7 +140,7 @@ fn list_index(
 {
     // There are 16384 slots, and a list for each at most.
     let Ok(next) = u16::try_from(lists.len() + 1) else {
-        return Err(AllocError);
+        unreachable!()
     };
     let number = number_of(pages, slot, next)?;
     Ok(usize::from(number) - 1)
@@ -196,7 +176,7 @@ fn share(
 }
 
 /// The routing to one node if there is one route, and else to the node of each route.
-fn routing_of_routes(
+pub(super) fn routing_of_routes(
     routes: Vec<(Route, Vec<usize>)>,
     pattern: MultiSlotArgPattern,
     policy: Option<ResponsePolicy>,

@@ -1,4 +1,5 @@
-use Rattle.std.proofs.Common.{◌≡◌, ◌<◌, ◌≤◌, ◌+◌, ◌*◌, ◌/◌, ap, sym, ◌∙◌, subst, Some, take, length}
+use Rattle.std.proofs.Common.{◌≡◌, ◌<◌, ◌≤◌, ◌+◌, ◌*◌, ◌/◌, ap, sym, ◌∙◌, subst, Some, take, length, arith}
+use Rattle.std.proofs.lemmas.List.{length-map}
 use Rattle.std.specs.List.{range_with_len}
 use Rattle.cluster_slots.specs.KeySlot.{key_slot}
 use Rattle.cluster_slots.specs.ArgPattern.{width_of, tuple_args_count}
@@ -7,7 +8,8 @@ use Rattle.redis_routing.specs.Groups.{lists_of_tuples, with_places}
 use Rattle.redis_routing.specs.Parts.{slot_of}
 use Rattle.redis_routing.specs.PresentArguments.{present_arguments_after}
 use Rattle.redis_routing.specs.Tuples.{tuples_in, places_of}
-use Rattle.redis_routing.proofs.Grouping.{lists_more}
+use Rattle.redis_routing.specs.RoutingInfo.{route_list}
+use Rattle.redis_routing.proofs.Grouping.{few_lists, lists_more}
 use Rattle.redis_routing.proofs.TupleSteps.{next_tuple, tuples_end}
 use Rattle.redis_routing.proofs.splitting.group_by_slot.Goals as goal
 
@@ -20,6 +22,11 @@ unreachable-requires g c =
     let next = next_tuple c.args.words c.args.pattern args i (subst (λ n. i < n) count c.loop-number-test.true) in
     let here : argument args (i * c.width-width.result + c.args.words) ≡ Some next.0.key = ap (λ w. argument args (i * w + c.args.words)) c.width-width.ensures ∙ next.1.key in
     cc (c.in_default.ensures.argument, here)
+
+pub add-requires-clause-few : goal.add-requires-clause-few
+add-requires-clause-few g c =
+    let ts = take c.loop-number.number (tuples_in c.args.pattern (present_arguments_after c.args.words (g.R.Routable.args c.args.command.now))) in
+    omega (arith, few_lists c.args.nodes ts, ap length c.loop-number.invariant.lists, length-map c.loop-number.lists.items route_list)
 
 pub loop-number-preserved : goal.loop-number-preserved
 loop-number-preserved g c =

@@ -1,9 +1,9 @@
 use Rattle.std.proofs.Common.{◌≡◌, ap, sym, ◌∙◌, length}
 use Rattle.cluster_slots.specs.ArgPattern.{is_complete}
 use Rattle.redis_routing.specs.PresentArguments.{present_arguments, present_arguments_after}
-use Rattle.redis_routing.proofs.CommandNames.{has_words}
 use Rattle.redis_routing.specs.Routing.{routes_of}
-use Rattle.redis_routing.proofs.split_command.SplitCommand.named.Goals as goal
+use Rattle.redis_routing.proofs.CommandNames.{has_words}
+use Rattle.redis_routing.proofs.routed.Routed.by_slots.Goals as goal
 
 pub invariant_of-result : goal.invariant_of-result
 invariant_of-result g c =
@@ -11,11 +11,11 @@ invariant_of-result g c =
     let present : present_arguments_after c.words_of-words.result args ≡ present_arguments args = ap (λ w. present_arguments_after w args) c.words_of-words.ensures in (
       record {
         few = c.present_len-count.ensures.arguments;
-        name = has_words args c.args.name.now c.requires;
-        complete = ap (λ p. is_complete c.in-Some.pattern (length p)) (sym present) ∙ ap (is_complete c.in-Some.pattern) (sym c.present_len-count.ensures.count) ∙ sym c.is_complete.ensures ∙ c.if-not-is_complete.false;
-        is_read = c.contains-reads.result;
-        routes = c.in_ok-routes.ensures ∙ ap (routes_of c.contains-reads.result c.in-Some.pattern) present;
-        policy = c.in-Some.ensures.joins;
+        name = has_words args c.args.name.now c.requires.name;
+        complete = ap (λ p. is_complete c.args.pattern (length p)) (sym present) ∙ ap (is_complete c.args.pattern) (sym c.present_len-count.ensures.count) ∙ sym c.is_complete.ensures ∙ c.if-is_complete.true;
+        is_read = c.args.reads;
+        routes = c.in_ok-routes.ensures ∙ ap (routes_of c.args.reads c.args.pattern) present;
+        policy = c.requires.joins;
       },
       c.words_of-words.ensures,
     )
