@@ -8,7 +8,7 @@ ghost use Rattle.redis_routing.specs.NameWords.{name_words_of};
 ghost use Rattle.redis_routing.specs.Routing.{routing, routing_of_routes, to_key, to_key_or_any, to_key_after, to_slot, by_count, argument_number};
 ghost use Rattle.redis_routing.specs.PresentArguments.{present_arguments};
 
-use super::info::{MultipleNodeRoutingInfo, RoutingInfo, nodes_for};
+use super::info::{MultipleNodeRoutingInfo, RoutingInfo, SingleNodeRoutingInfo, nodes_for};
 use super::routed::{NodeGroup, Routed};
 use super::split_command::SplitCommand;
 use super::splitting::routing_of_routes;
@@ -108,7 +108,14 @@ fn for_command<R: Routable>(
         ≡ routing (names_of read_only.now (unwrap_or (option_copied registry.entry) []))
         (R.args command.now)) }
 {
-    match Routed::by_tables(alloc, command, read_only, registry)? {
+    let routed = Routed::by_tables(alloc, command, read_only, registry)?;
+    if let Routed::One(SingleNodeRoutingInfo::SpecificNode(route)) = &routed {
+        // Its two fields are copied, and not the room for an address.
+        let route = Route::new(route.slot(), route.slot_addr());
+        let node = SingleNodeRoutingInfo::SpecificNode(route);
+        return Ok(Some(RoutingInfo::SingleNode(node)));
+    }
+    match routed {
         Routed::Nowhere => Ok(None),
         Routed::One(node) => Ok(Some(RoutingInfo::SingleNode(node))),
         Routed::Several(nodes, policy) => Ok(Some(to_several(nodes, policy))),
@@ -155,7 +162,8 @@ pub(super) fn to_key_or_any(key: Option<&[u8]>, reads: bool) -> Option<Option<Ro
 /// By the count of keys at a place and the first key after it.
 pub(super) fn by_count<R: Routable>(command: &R, place: usize, reads: bool) -> Option<Option<Route>>
     requires { place < 2 ^ 16 }
-    ensures { one_node result ≡ by_count reads (argument_number 64 (argument (R.args command.now) place))
+    ensures { one_node result
+        ≡ by_count reads (argument_number 64 (argument (R.args command.now) place))
         (argument (R.args command.now) (place + 1)) }
 {
     let count = parse_u64(command.arg_idx(place)?)?;

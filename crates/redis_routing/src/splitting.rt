@@ -34,7 +34,8 @@ pub(super) fn words_of<R: Routable>(command: &R, name: &[u8]) -> usize
     }
 }
 
-/// The routes of a command's `count` arguments after a name of `words` words. They make whole tuples.
+/// The routes of a command's `count` arguments after a name of `words` words, which make whole
+/// tuples.
 pub(super) fn routes_by_slot<R: Routable>(
     alloc: Global,
     command: &R,
