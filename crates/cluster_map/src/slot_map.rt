@@ -132,19 +132,6 @@ impl SlotAddrs {
     }
 }
 
-/// The ranges as (start, end, nodes), in order.
-fn range_entries(slots: Vec<SlotRange>) -> Result<Vec<(u16, u16, SlotAddrs)>, AllocError>
-    ensures { IfOk result (λ entries. entries.items ≡ map range_entry slots.items) }
-{
-    let alloc = *slots.allocator();
-    let mut entries = Vec::with_capacity(alloc, slots.len())?;
-    for slot in slots {
-        let (start, end) = (slot.start, slot.end);
-        entries.push((start, end, SlotAddrs::from_slot(slot)))?;
-    }
-    Ok(entries)
-}
-
 /// Which nodes serve which slots of a cluster.
 ///
 /// ```
@@ -200,7 +187,11 @@ impl SlotMap {
         if slots.is_empty() {
             return Ok(());
         }
-        self.slots.extend(range_entries(slots)?)
+        let alloc = *slots.allocator();
+        let ranges = slots
+            .into_iter()
+            .map(|slot| (slot.start, slot.end, SlotAddrs::from_slot(slot)));
+        self.slots.extend(ranges.collect(alloc)?)
     }
 
     /// The map of these ranges, inserted in order. A later range replaces an earlier one with the
