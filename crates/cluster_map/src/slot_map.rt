@@ -22,6 +22,7 @@ use addresses::insert_all;
 use cluster_slots::{NodeAddress, Route, SlotAddr};
 use grouping::shards_of;
 use node_set::NodeSet;
+use primaries::{primaries_of_few, primaries_of_many};
 use resp_core::{RedisResult, Value};
 use std::alloc::{AllocError, Global};
 use std::cell::Cell;
@@ -30,10 +31,14 @@ use std::marker::Model;
 mod addresses;
 mod grouping;
 mod node_set;
+mod primaries;
 
 pub use crate::slot_range::SlotRange;
 pub use addresses::NodeAddresses;
 pub use node_set::{number_nodes, number_nodes_counting};
+
+/// The most ranges whose primaries are compared one by one. More are found by a set.
+const FEW_RANGES: usize = 16;
 
 /// The nodes that serve a range of slots: a primary and its replicas.
 #[derive(Debug, Drop)]
@@ -331,13 +336,11 @@ impl SlotMap {
         ensures all { IfOk result (λ found. addresses_behind found.items ≡ primaries_in self.now) }
         ensures order { Ascends self.now }
     {
-        let ranges = self.values();
-        let misses = Cell::new(0);
-        let mut seen = NodeSet::new(alloc, &self.slots, &misses)?;
-        for addrs in ranges {
-            seen.insert_full(&addrs.primary)?;
+        if self.slots.len() <= FEW_RANGES {
+            primaries_of_few(alloc, &self.slots)
+        } else {
+            primaries_of_many(alloc, &self.slots)
         }
-        seen.into_nodes()
     }
 
     /// Each node once, in order of its first range. Within a range the primary comes first.

@@ -19,6 +19,7 @@ mod node_hasher;
 mod numbering;
 mod source;
 
+pub(crate) use numbering::index_in;
 pub use numbering::{number_nodes, number_nodes_counting};
 pub(crate) use source::Source;
 

@@ -78,7 +78,7 @@ fn number_few<'a>(
 }
 
 /// The index of a node among others, or how many they are.
-fn index_in(found: &[&NodeAddress], node: &NodeAddress) -> usize
+pub(crate) fn index_in(found: &[&NodeAddress], node: &NodeAddress) -> usize
     ensures { result ≡ index_of node.now (addresses_behind found.now) }
 {
     let mut index = 0;

@@ -4,14 +4,14 @@ use Rattle.std.proofs.lemmas.List.{append-nil}
 use Rattle.cluster_map.specs.EachOnce.{each_once}
 use Rattle.cluster_map.proofs.Members.{add_new, added_more}
 use Rattle.cluster_map.proofs.RangePrimaries.{range_primary, primaries_last, primaries_in}
-use Rattle.cluster_map.proofs.slot_map.SlotMap.addresses_for_all_primaries.Goals as goal
+use Rattle.cluster_map.proofs.slot_map.primaries.primaries_of_many.Goals as goal
 
 pub loop-addrs-preserved : goal.loop-addrs-preserved
 loop-addrs-preserved c =
     let done = c.loop-addrs.invariant.2.0 in
     let nodes = c.in-Some.addrs.now in
     let old = c.loop-addrs.seen in
-    let keys = c.in_ok-insert_full.ensures.nodes ∙ ap (add_new old) (ap range_primary c.addrs.view_is) in (
+    let keys = c.in_ok-insert_full.ensures.nodes ∙ ap (add_new old) c.primary.ensures in (
       tt,
       tt,
       (
@@ -22,4 +22,4 @@ loop-addrs-preserved c =
     )
 
 pub returns : goal.returns
-returns c = grind (arith, append-nil, range_primary, primaries_in c.args.self.now, common_steps)
+returns c = grind (arith, append-nil, range_primary, primaries_in c.args.ranges.now, common_steps)
