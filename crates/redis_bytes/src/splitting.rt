@@ -12,7 +12,7 @@ ghost use Rattle.redis_bytes.specs.Requests.{IsSplitRequest, AreParts, AreWritte
 use crate::fault::BytesFault;
 use crate::requests::{Request, request_in};
 use cluster_slots::Route;
-use redis_routing::{Names, Routable, SplitCommand, name_words};
+use redis_routing::{Names, Routable, SplitCommand};
 use resp::{push_array_line, push_bulk};
 use std::alloc::{AllocError, Global};
 
@@ -123,7 +123,7 @@ pub fn push_part(
     // What was there stays, also after an error.
     ensures before { (more : List ℕ) × (out.new.items ≡ out.old.items ++ more) }
 {
-    push_args(out, command, name_words(command), &split.routes()[number].1)
+    push_args(out, command, split.words(), &split.routes()[number].1)
 }
 
 /// Appends the request of the words of a name and the arguments at these indices after them.

@@ -2,6 +2,7 @@ ghost use Rattle.std.specs.Prelude.{◌≡◌, ◌<◌, Some, true, length, map,
 ghost use Rattle.redis_routing.specs.Command.{command_name};
 ghost use Rattle.redis_routing.specs.Complete.{multi_slot_routes, pattern_by_name, AreSubCommands};
 ghost use Rattle.redis_routing.specs.Names.{names_in};
+ghost use Rattle.redis_routing.specs.NameWords.{name_words_of};
 ghost use Rattle.redis_routing.specs.Policies.{joins_parts};
 ghost use Rattle.redis_routing.specs.Split.{Split, IsSplit, route_part, policy_by_name};
 ghost use Rattle.redis_routing.specs.RoutingInfo.{route_lists};
@@ -126,6 +127,13 @@ impl<'a, R: Routable> SplitCommand<'a, R> {
             unreachable!()
         };
         Ok(part)
+    }
+
+    /// How many arguments the name of the command takes, as `name_words` counts them.
+    pub fn words(&self) -> usize
+        ensures { result ≡ name_words_of self.now.arguments }
+    {
+        self.words
     }
 }
 
