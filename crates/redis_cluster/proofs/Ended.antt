@@ -21,13 +21,13 @@ use Rattle.redis_cluster.specs.Unsplit.{Step, Keyspace, act_of, after, keyspace_
 use Rattle.redis_cluster.specs.declared.nodes.SendError.{SendError}
 use Rattle.redis_cluster.specs.declared.nodes.SendError.TheVariants as sent
 use Rattle.redis_cluster.proofs.Orders.{map-in_order}
-use Rattle.redis_cluster.specs.Driven.{Request, IsDrivable, RoutesTookEffect}
+use Rattle.redis_cluster.specs.Driven.{Request, IsDrivable, IsDeliveredBy, RoutesTookEffect}
 use Rattle.redis_cluster.specs.State.{State}
 use Rattle.redis_cluster.specs.Ended.{AreEndedEarly, AreStopped}
 use Rattle.redis_cluster.specs.Faults.{fault_of_send, IsBefore, IsReachOf, TookEffect, WereCutShort, whole, up_to}
 use Rattle.redis_cluster.specs.Plan.{Plan}
 use Rattle.redis_routing.specs.Split.{slots_of}
-use Rattle.redis_cluster.specs.Attempts.{Try}
+use Rattle.redis_cluster.specs.Attempts.{Try, IsCause}
 use Rattle.redis_cluster.specs.Retried.{AreTried, EndsTried}
 use Rattle.redis_cluster.specs.Sends.{SlotsTookEffect}
 use Rattle.redis_cluster.specs.Tries.{SentInTurn}
@@ -72,6 +72,12 @@ take_in_order (x ∷ xs) (suc count) (k ∷ order) within =
     let at : slice_get (x ∷ xs) k ≡ Some (get_or (x ∷ xs) k x) = slice_get-get_or (x ∷ xs) k x (All-head (λ j. j < length (x ∷ xs)) k order within) in
     rw at (ap (λ ys. get_or (x ∷ xs) k x ∷ ys) (take_in_order (x ∷ xs) count order (All-tail (λ j. j < length (x ∷ xs)) k order within)))
 
+same_end : (one other : Option Ending) → up_to one ≡ up_to other → one ≡ other
+same_end one other is = cc
+
+past_none : (ending : Option Ending) → whole ≡ up_to ending → ⊥
+past_none ending is = cc
+
 -- what was tried for routes, by the tries of each
 tried_all : (IsTry : SlotRoute → Try → Type 0) (routes : List SlotRoute) (tries : List Try) (old new : List Entry) → AllZip IsTry routes tries → SentInTurn tries old new → AreTried IsTry routes old new
 tried_all IsTry [] [] old new each tried = tried
@@ -102,7 +108,7 @@ module _ {C : Type 0} (IsNode : SlotRoute → Address → Type 0) (step : Step C
     of_routes : NamesOnce (length routes) r.order
     of_routes = subst (λ n. NamesOnce n r.order) (sym routes_many) order
 
-    pub drivable : IsDrivable r routes command
+    drivable : IsDrivable r routes command
     drivable = record { is_covered = is.is_covered; order = of_routes }
 
     slots_first : (count : ℕ) → map (λ (route : SlotRoute). route.slot) (take count (in_order routes r.order)) ≡ in_order slots (take count r.order)
@@ -116,8 +122,11 @@ module _ {C : Type 0} (IsNode : SlotRoute → Address → Type 0) (step : Step C
       tried_first count trace tried = grind (arith, common_steps, take_in_order routes count r.order of_routes.below, tried_all IsTry (in_order routes (take count r.order)) (in_order tries (take count r.order)) old.trace trace (both_in_order IsTry routes tries (take count r.order) are) tried, both_in_order IsTry routes tries (take count r.order) are)
 
       -- all were tried
-      pub tried_whole : SentInTurn (in_order tries r.order) old.trace new.trace → AreTried IsTry (in_order routes r.order) old.trace new.trace
+      tried_whole : SentInTurn (in_order tries r.order) old.trace new.trace → AreTried IsTry (in_order routes r.order) old.trace new.trace
       tried_whole tried = tried_all IsTry (in_order routes r.order) (in_order tries r.order) old.trace new.trace (both_in_order IsTry routes tries r.order are) tried
+
+      abbrev pub all_tried : SentInTurn (in_order tries r.order) old.trace new.trace → IsDeliveredBy (AreTried IsTry) r old.trace new.trace
+      all_tried tried = record { routes = routes; command = command; drivable = drivable; trace = tried_whole tried }
 
       took : (ending : Option Ending) (count : ℕ) → SlotsTookEffect (act_of step command) command.tuples (in_order slots (take count r.order)) (in_order slots (take (count + 1) r.order)) old.keyspace new.keyspace ending
           → TookEffect r old new step routes command count (up_to ending)
@@ -143,7 +152,7 @@ module _ {C : Type 0} (IsNode : SlotRoute → Address → Type 0) (step : Step C
                 reach = up_to ending;
                 reach_is = reach;
                 went = (own.0, s.before, own.1, tried_first count s.before s.trace, (s.try, own.2, s.tried));
-                allowed = s.cause;
+                allowed = λ e is. subst (λ (x : Option Ending). IsCause may_refuse (length new.trace) new.mark x) (same_end ending e is) s.cause;
               },
               λ now. (took ending count (s.keyspace now), fits),
             )
@@ -165,7 +174,7 @@ module _ {C : Type 0} (IsNode : SlotRoute → Address → Type 0) (step : Step C
             reach = whole;
             reach_is = reach;
             went = (all ∙ sym routes_many, tried_whole tried);
-            allowed = tt;
+            allowed = λ e is. absurd (past_none e is);
           },
           effect,
         )

@@ -19,7 +19,7 @@ use Rattle.redis_cluster.specs.Unsplit.{Step}
 use Rattle.redis_cluster.specs.Driven.{Request, command_routes_by, IsDrivable, IsEntryOf, AreSent, AreAllAnswered, IsUnhindered}
 use Rattle.redis_cluster.specs.State.{State}
 use Rattle.redis_cluster.specs.Attempts.{IsCause}
-use Rattle.redis_cluster.specs.Faults.{IsCauseBeforeSending, EndsOnce, IsFault, IsFaultBy, WentOut, WereCutShort, up_to}
+use Rattle.redis_cluster.specs.Faults.{IsCauseBeforeSending, EndsOnce, IsFault, IsFaultBy, Reach, WentOut, WereCutShort, up_to}
 use Rattle.redis_cluster.specs.declared.fault.DriveFault.{DriveFault}
 use Rattle.redis_cluster.specs.declared.fault.DriveFault.TheVariants.{NotMultiKey, NotCovered, BadOrder, Memory, Node, Redirected, Lost, Reply}
 use Rattle.redis_cluster.proofs.CommandParts.{covered_routes}
@@ -70,7 +70,13 @@ module _ (Answered : List SlotRoute → List Entry → List Entry → Type 0) (E
     pub allowed : IsCause may_refuse (length new.trace) new.mark (Some ending)
 
   pub reached : (fault : DriveFault) (ending : Ending) (cut : WereCutShort Answered Ends r old new may_refuse fault count) → cut.reach ≡ up_to (Some ending) → ReachedUpTo ending
-  reached fault ending cut is = grind (arith, common_steps)
+  reached fault ending cut is = record {
+    routes = cut.routes;
+    command = cut.command;
+    drivable = cut.drivable;
+    went = subst (λ (reach : Reach). WentOut Answered Ends r cut.routes count reach old.trace new.trace) is cut.went;
+    allowed = cut.allowed (Some ending) is;
+  }
 
   pub only_memory : (asked : List SlotRoute) (command : MultiKey) → IsDrivable r asked command → (step : Step C) (fault : DriveFault) → IsFaultBy Answered Ends r old new may_refuse step fault count
       → ((ending : Ending) → ReachedUpTo ending → ending ≡ answered) → fault ≡ Memory

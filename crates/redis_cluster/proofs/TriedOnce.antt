@@ -25,7 +25,7 @@ use Rattle.redis_cluster.specs.Tries.{tries_with, SentInTurn}
 use Rattle.redis_cluster.specs.declared.fault.DriveFault.{DriveFault}
 use Rattle.redis_cluster.specs.declared.fault.DriveFault.TheVariants as early
 use Rattle.redis_cluster.specs.declared.fault.PlanFault.{PlanFault}
-use Rattle.redis_cluster.proofs.Ended.{drivable, tried_whole, cut_short, AreEnded}
+use Rattle.redis_cluster.proofs.Ended.{all_tried, cut_short, AreEnded}
 use Rattle.redis_cluster.proofs.Laws.{tried_once, tried_none}
 use Rattle.redis_cluster.proofs.Wider.{cut_by}
 
@@ -62,12 +62,11 @@ module _ (IsNode : SlotRoute → Address → Type 0) (asked : Request) where
   ends_once route None old new (try, is, tried) = tried_none try old new is.none tried
   ends_once route (Some ending) old new (try, is, tried) = (entry is.node try.part ending, entry_once route try is ending, tried_once try ending is.node [] old new is.none is.places tried)
 
-module _ {C : Type 0} (IsNode : SlotRoute → Address → Type 0) (step : Step C) (r : Request) (old new : State C) where
-  pub driven_once : (value : Reply) → IsRetried (IsOnce IsNode) step r old new value → IsDriven IsNode step r old new value
-  driven_once value d = grind (arith, drivable, sent_once)
-
-pub delivered_once : (IsNode : SlotRoute → Address → Type 0) (r : Request) (old new : List Entry) → AreAllTried (IsOnce IsNode) r old new → IsDelivered IsNode r old new
+abbrev pub delivered_once : (IsNode : SlotRoute → Address → Type 0) (r : Request) (old new : List Entry) → AreAllTried (IsOnce IsNode) r old new → IsDelivered IsNode r old new
 delivered_once IsNode r old new d = record { routes = d.routes; command = d.command; drivable = d.drivable; trace = sent_once IsNode r (in_order d.routes r.order) old new d.trace }
+
+driven_once : {C : Type 0} (IsNode : SlotRoute → Address → Type 0) (step : Step C) (r : Request) (old new : State C) (value : Reply) → IsRetried (IsOnce IsNode) step r old new value → IsDriven IsNode step r old new value
+driven_once IsNode step r old new value d = record { delivered = delivered_once IsNode r old.trace new.trace d.delivered; keyspace = d.keyspace; reply = d.reply }
 
 -- a command that has no plan has a fault that comes before the first send
 pub early_plan : (r : Request) (fault : PlanFault) → IsPlanFault r.map r.names r.arguments fault → IsCauseBeforeSending r (fault_of_plan fault)
@@ -87,24 +86,11 @@ module _ {C : Type 0} (step : Step C) (r : Request) (order : List ℕ) (register
   each_try = each_once IsNode r (map (λ t. t.0) plan.split.routes) (targets plan) is.0.targets_are
 
   -- what was sent of a plan, each part once
-  pub plan_tried : SentInTurn (in_order tries order) old.trace new.trace → AreAllTried (IsOnce IsNode) r old.trace new.trace
-  plan_tried tried = record {
-    routes = map (λ t. t.0) plan.split.routes;
-    command = command;
-    drivable = drivable IsNode step r old new plan command is.0 names_asked;
-    trace = tried_whole IsNode step r old new plan command is.0 names_asked (IsOnce IsNode r) tries each_try (subst (λ o. SentInTurn (in_order tries o) old.trace new.trace) (sym is.1) tried);
-  }
+  abbrev pub plan_tried : SentInTurn (in_order tries order) old.trace new.trace → AreAllTried (IsOnce IsNode) r old.trace new.trace
+  plan_tried tried = all_tried IsNode step r old new plan command is.0 names_asked (IsOnce IsNode r) tries each_try (subst (λ o. SentInTurn (in_order tries o) old.trace new.trace) (sym is.1) tried)
 
   pub plan_driven : (value : Reply) → SentInTurn (in_order tries order) old.trace new.trace → new.keyspace ≡ keyspace_after step command old.keyspace → value ≡ reply_to step command old.keyspace → IsDriven IsNode step r old new value
-  plan_driven value tried keyspace reply =
-      driven_once IsNode step r old new value (record {
-        routes = map (λ t. t.0) plan.split.routes;
-        command = command;
-        drivable = drivable IsNode step r old new plan command is.0 names_asked;
-        trace = tried_whole IsNode step r old new plan command is.0 names_asked (IsOnce IsNode r) tries each_try (subst (λ o. SentInTurn (in_order tries o) old.trace new.trace) (sym is.1) tried);
-        keyspace = keyspace;
-        reply = reply;
-      })
+  plan_driven value tried keyspace reply = driven_once IsNode step r old new value (record { delivered = plan_tried tried; keyspace = keyspace; reply = reply })
 
   pub plan_cut : (kept : Type 0) (may_refuse : ℕ → Ending → Type 0) (fault : DriveFault) (count : ℕ) → AreEndedEarly kept registered step may_refuse plan tries order old.keyspace new.keyspace old.trace new.trace new.mark fault count
       → AreEnded (AreSent IsNode r) (EndsOnce IsNode r) step r kept old new may_refuse count fault

@@ -1,5 +1,5 @@
 -- Where sends are answered, each route has one attempt, and a command that can be driven only lacks memory.
-use Rattle.std.proofs.Common.{◌≡◌, ⊎_elim, ◌<◌, ℕ, suc, ◌+◌, List, [], ◌∷◌, ◌++◌, Some, refl, sym, ap, ◌∙◌, arith, subst, map, take, length, append_assoc}
+use Rattle.std.proofs.Common.{◌≡◌, ⊎_elim, ◌<◌, ◌≤◌, ℕ, suc, ◌+◌, List, [], ◌∷◌, ◌++◌, Some, refl, sym, ap, ◌∙◌, arith, subst, map, take, length, append_assoc}
 use Rattle.std.specs.Prelude.{slice_get}
 use Rattle.std.specs.List.{AllZip}
 use Rattle.std.proofs.lemmas.List.{append-nil, append_cancel_left, length-take-le}
@@ -12,7 +12,7 @@ use Rattle.redis_cluster.specs.Orders.{in_order}
 use Rattle.redis_cluster.specs.Trace.{Entry, Ending, answered}
 use Rattle.redis_cluster.specs.Unsplit.{Step}
 use Rattle.redis_cluster.specs.Attempts.{Try, refusals, last_ending, next_place, next_address, AreBegun, AreAllowed, AttemptsOf}
-use Rattle.redis_cluster.specs.Driven.{Request, IsDrivable, IsEntryOf, IsDelivered, AreAllAnswered, AreWilling, IsUnhindered}
+use Rattle.redis_cluster.specs.Driven.{Request, IsDrivable, IsEntryOf, IsDelivered, AreAllAnswered, IsUnhindered}
 use Rattle.redis_cluster.specs.State.{State}
 use Rattle.redis_cluster.specs.Retried.{IsTryOf, AreTried, AreAllTried, EndsTried, IsRetryFault}
 use Rattle.redis_cluster.specs.declared.fault.DriveFault.{DriveFault}
@@ -86,7 +86,7 @@ module _ (IsNode : SlotRoute → Address → Type 0) (r : Request) (retries : �
       subst (λ es. AllZip (IsEntryOf IsNode r answered) (route ∷ routes) es) (sym front) (one.2, rest)
 
 -- entries of nodes that may refuse none of them were answered
-were_willing : (may_refuse : ℕ → Ending → Type 0) (old new : List Entry) (many : ℕ) (are : AreAllowed may_refuse old new) → AreWilling may_refuse (length old) many → AreFirstAnswered many are.entries
+were_willing : (may_refuse : ℕ → Ending → Type 0) (old new : List Entry) (many : ℕ) (are : AreAllowed may_refuse old new) → ((number : ℕ) → length old ≤ number → number < length old + many → (ending : Ending) → may_refuse number ending → ending ≡ answered) → AreFirstAnswered many are.entries
 were_willing may_refuse old new many are willing number e below at =
     ⊎_elim (λ is. is) (λ may. willing (length old + number) (omega arith) (omega (arith, below)) e.ending may) (are.each number e at)
 

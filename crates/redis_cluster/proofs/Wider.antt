@@ -66,12 +66,12 @@ module _ (P Q : SlotRoute → Address → Type 0) (wider : (route : SlotRoute) (
   sent_at : (asked : Request) (routes : List SlotRoute) (old new : List Entry) → AreSent P asked routes old new → AreSent Q asked routes old new
   sent_at asked routes old new s = record { entries = s.entries; grew = s.grew; each = entries_at asked answered routes s.entries s.each }
 
-  pub delivered_at : (r : Request) (old new : List Entry) → IsDelivered P r old new → IsDelivered Q r old new
+  abbrev pub delivered_at : (r : Request) (old new : List Entry) → IsDelivered P r old new → IsDelivered Q r old new
   delivered_at r old new d = record { routes = d.routes; command = d.command; drivable = d.drivable; trace = sent_at r _ old new d.trace }
 
   module _ {C : Type 0} (step : Step C) (r : Request) (old new : State C) where
     pub driven_at : (value : Reply) → IsDriven P step r old new value → IsDriven Q step r old new value
-    driven_at value d = record { routes = d.routes; command = d.command; drivable = d.drivable; trace = sent_at r _ old.trace new.trace d.trace; keyspace = d.keyspace; reply = d.reply }
+    driven_at value d = record { delivered = delivered_at r old.trace new.trace d.delivered; keyspace = d.keyspace; reply = d.reply }
 
   ends_at : (r : Request) (route : SlotRoute) (ending : Option Ending) (old new : List Entry) → EndsOnce P r route ending old new → EndsOnce Q r route ending old new
   ends_at r route None old new same = same

@@ -69,14 +69,30 @@ module _ (IsNode : SlotRoute → Address → Type 0) (r : Request) where
     pub grew : new ≡ old ++ entries
     pub each : AllZip (IsEntryOf answered) routes entries
 
--- Each part was sent once, in the order given, to a node of its route, and was answered, whatever
--- the answers are.
-pub record IsDelivered (IsNode : SlotRoute → Address → Type 0) (r : Request) (old new : List Entry)
-    : Type 0 where
+-- Each part was answered, in the order given, whatever the answers are. `Answered` says of routes
+-- that the trace grew by an answer to each, in their order.
+pub record IsDeliveredBy (Answered : List SlotRoute → (old new : List Entry) → Type 0) (r : Request)
+    (old new : List Entry) : Type 0 where
   pub routes : List SlotRoute
   pub command : MultiKey
   pub drivable : IsDrivable r routes command
-  pub trace : AreSent IsNode r (in_order routes r.order) old new
+  pub trace : Answered (in_order routes r.order) old new
+
+-- The command was driven to its end: it was delivered, and the keyspace and the reply are those of
+-- the unsplit command.
+pub record IsDrivenBy {C : Type 0} (Answered : List SlotRoute → (old new : List Entry) → Type 0)
+    (step : Step C) (r : Request) (old new : State C) (value : Reply) : Type 0 where
+  pub delivered : IsDeliveredBy Answered r old.trace new.trace
+  pub keyspace : new.keyspace ≡ keyspace_after step delivered.command old.keyspace
+  pub reply : value ≡ reply_to step delivered.command old.keyspace
+
+-- `IsDeliveredBy` and `IsDrivenBy` of parts that go once each, to a node of their route
+abbrev pub IsDelivered : (SlotRoute → Address → Type 0) → Request → (old new : List Entry) → Type 0
+IsDelivered IsNode r old new = IsDeliveredBy (AreSent IsNode r) r old new
+
+abbrev pub IsDriven : {C : Type 0} → (SlotRoute → Address → Type 0) → Step C → Request
+    → (old new : State C) → Reply → Type 0
+IsDriven IsNode step r old new value = IsDrivenBy (AreSent IsNode r) step r old new value
 
 -- the keyspace is that of the tuples of these routes' slots, in the order of the arguments
 abbrev pub RoutesTookEffect : {C : Type 0} → Step C → (old new : State C) → MultiKey → List SlotRoute
@@ -85,35 +101,17 @@ RoutesTookEffect step old new command routes =
     new.keyspace ≡ after (act_of step command)
     (tuples_of_slots (map (λ route. route.slot) routes) command.tuples) old.keyspace
 
-module _ {C : Type 0} (IsNode : SlotRoute → Address → Type 0) (step : Step C) (r : Request)
-    (old new : State C) where
-  -- The command was driven to its end: each part was sent once, in the order given, to a node of
-  -- its route, and the keyspace and the reply are those of the unsplit command.
-  pub record IsDriven (value : Reply) : Type 0 where
-    pub routes : List SlotRoute
-    pub command : MultiKey
-    pub drivable : IsDrivable r routes command
-    pub trace : AreSent IsNode r (in_order routes r.order) old.trace new.trace
-    pub keyspace : new.keyspace ≡ keyspace_after step command old.keyspace
-    pub reply : value ≡ reply_to step command old.keyspace
-
 -- each entry that the trace grew by was answered
 abbrev pub AreAllAnswered : List Entry → List Entry → Type 0
 AreAllAnswered old new =
     (entries : List Entry) × (new ≡ old ++ entries) × All (λ e. e.ending ≡ answered) entries
 
--- Each of the next sends, after these entries, must be answered: none may be refused or redirected,
--- or lose its reply.
-abbrev pub AreWilling : (ℕ → Ending → Type 0) → ℕ → ℕ → Type 0
-AreWilling may_refuse entries sends =
-    (number : ℕ) → entries ≤ number → number < entries + sends → (ending : Ending)
-    → may_refuse number ending → ending ≡ answered
-
--- what is needed besides memory, so that a command is driven to its end: it can be driven, no node
--- refuses or redirects, and no reply is lost
+-- What is needed besides memory, so that a command is driven to its end: it can be driven, and each
+-- send of its parts must be answered. None may be refused or redirected, or lose its reply.
 pub record IsUnhindered (may_refuse : ℕ → Ending → Type 0) (r : Request) (trace : List Entry)
     : Type 0 where
   pub routes : List SlotRoute
   pub command : MultiKey
   pub drivable : IsDrivable r routes command
-  pub willing : AreWilling may_refuse (length trace) (length routes)
+  pub willing : (number : ℕ) → length trace ≤ number → number < length trace + length routes
+      → (ending : Ending) → may_refuse number ending → ending ≡ answered

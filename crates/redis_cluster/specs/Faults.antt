@@ -107,12 +107,8 @@ module _ (Answered : List SlotRoute → (old new : List Entry) → Type 0)
       × Answered (take count (in_order routes r.order)) old before × Ends route ending before new
 
   module _ {C : Type 0} (old new : State C) (may_refuse : ℕ → Ending → Type 0) where
-    -- the last send was allowed to end so
-    abbrev pub IsAllowed : Reach → Type 0
-    IsAllowed whole = Unit {0}
-    IsAllowed (up_to ending) = IsCause may_refuse (length new.trace) new.mark ending
-
-    -- the sends were cut short, and the fault says where
+    -- The sends were cut short, and the fault says where. The last send, if they reached only up to a
+    -- route, was allowed to end so.
     pub record WereCutShort (fault : DriveFault) (count : ℕ) : Type 0 where
       pub routes : List SlotRoute
       pub command : MultiKey
@@ -120,7 +116,8 @@ module _ (Answered : List SlotRoute → (old new : List Entry) → Type 0)
       pub reach : Reach
       pub reach_is : IsReachOf fault command.form reach
       pub went : WentOut routes count reach old.trace new.trace
-      pub allowed : IsAllowed reach
+      pub allowed : (ending : Option Ending) → reach ≡ up_to ending
+          → IsCause may_refuse (length new.trace) new.mark ending
 
     -- whatever servers do: the fault has its cause, and exactly the first `count` parts were
     -- answered

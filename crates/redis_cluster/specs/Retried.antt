@@ -5,12 +5,11 @@ use Rattle.resp_core.specs.Reply.{Reply}
 use Rattle.cluster_slots.specs.Address.{Address}
 use Rattle.cluster_slots.specs.SlotRoute.{SlotRoute}
 use Rattle.cluster_map.specs.Fallback.{IsFallback}
-use Rattle.redis_cluster.specs.MultiKey.{MultiKey, part_by_slot}
-use Rattle.redis_cluster.specs.Orders.{in_order}
+use Rattle.redis_cluster.specs.MultiKey.{part_by_slot}
 use Rattle.redis_cluster.specs.Trace.{Entry, Ending, answered}
-use Rattle.redis_cluster.specs.Unsplit.{Step, keyspace_after, reply_to}
+use Rattle.redis_cluster.specs.Unsplit.{Step}
 use Rattle.redis_cluster.specs.Attempts.{Try, AttemptsOf}
-use Rattle.redis_cluster.specs.Driven.{Request, IsDrivable}
+use Rattle.redis_cluster.specs.Driven.{Request, IsDeliveredBy, IsDrivenBy}
 use Rattle.redis_cluster.specs.State.{State}
 use Rattle.redis_cluster.specs.Faults.{IsCutBy, IsFaultBy}
 use Rattle.redis_cluster.specs.declared.fault.DriveFault.{DriveFault}
@@ -42,23 +41,12 @@ module _ (IsTry : SlotRoute → Try → Type 0) where
 
 -- `IsTry` says of a request what is tried for each of its routes.
 module _ (IsTry : Request → SlotRoute → Try → Type 0) where
-  -- each part was tried in the order given, until it was answered, whatever the answers are
-  pub record AreAllTried (r : Request) (old new : List Entry) : Type 0 where
-    pub routes : List SlotRoute
-    pub command : MultiKey
-    pub drivable : IsDrivable r routes command
-    pub trace : AreTried (IsTry r) (in_order routes r.order) old new
+  -- `IsDeliveredBy` and `IsDrivenBy` of parts that are tried until they are answered
+  abbrev pub AreAllTried : Request → (old new : List Entry) → Type 0
+  AreAllTried r old new = IsDeliveredBy (AreTried (IsTry r)) r old new
 
-  module _ {C : Type 0} (step : Step C) (r : Request) (old new : State C) where
-    -- The command was driven to its end: each part was tried in the order given, until it was
-    -- answered, and the keyspace and the reply are those of the unsplit command.
-    pub record IsRetried (value : Reply) : Type 0 where
-      pub routes : List SlotRoute
-      pub command : MultiKey
-      pub drivable : IsDrivable r routes command
-      pub trace : AreTried (IsTry r) (in_order routes r.order) old.trace new.trace
-      pub keyspace : new.keyspace ≡ keyspace_after step command old.keyspace
-      pub reply : value ≡ reply_to step command old.keyspace
+  abbrev pub IsRetried : {C : Type 0} → Step C → Request → (old new : State C) → Reply → Type 0
+  IsRetried step r old new value = IsDrivenBy (AreTried (IsTry r)) step r old new value
 
   -- `IsCutBy` and `IsFaultBy` of parts that are tried again
   abbrev pub IsRetryCut : {C : Type 0} → Request → (old new : State C) → (ℕ → Ending → Type 0)

@@ -131,21 +131,25 @@ order_is direction registered words order routes is are = subst (λ (found : Opt
 -- A command that was driven, whose new entries and whose reply make the text, was run.
 pub command_run : (handed : Bool) (direction : Direction) (registered : Registrations) (entries : List (ranges.RangeEntry SlotNodes)) (words : List (List ℕ)) (old new : State Cell) (order : List ℕ) (answer : Reply) (text : List ℕ) → IsOrderOf direction (names_with registered) words order
     → IsDriven (IsRunNode handed entries) step (request (map Some words) (names_with registered) entries order) old new answer → text ≡ command_lines (drop (length old.trace) new.trace) answer → IsCommandRun handed direction registered entries words old.keyspace new.keyspace text
-command_run handed direction registered entries words old new order answer text ordered d lines = record {
-  order = order;
-  sent = d.trace.entries;
-  answer = answer;
-  driven = record {
-    routes = d.routes;
-    command = d.command;
-    drivable = d.drivable;
-    trace = record { entries = d.trace.entries; grew = refl; each = d.trace.each };
-    keyspace = d.keyspace;
-    reply = d.reply;
-  };
-  ordered = order_is direction registered words order d.routes ordered (covered_routes (request (map Some words) (names_with registered) entries order) d.routes d.command d.drivable.is_covered);
-  printed = lines ∙ ap (λ sent. command_lines sent answer) (ap (drop (length old.trace)) d.trace.grew ∙ drop-append_seam old.trace d.trace.entries);
-}
+command_run handed direction registered entries words old new order answer text ordered d lines =
+    let was = d.delivered in
+    record {
+      order = order;
+      sent = was.trace.entries;
+      answer = answer;
+      driven = record {
+        delivered = record {
+          routes = was.routes;
+          command = was.command;
+          drivable = was.drivable;
+          trace = record { entries = was.trace.entries; grew = refl; each = was.trace.each };
+        };
+        keyspace = d.keyspace;
+        reply = d.reply;
+      };
+      ordered = order_is direction registered words order was.routes ordered (covered_routes (request (map Some words) (names_with registered) entries order) was.routes was.command was.drivable.is_covered);
+      printed = lines ∙ ap (λ sent. command_lines sent answer) (ap (drop (length old.trace)) was.trace.grew ∙ drop-append_seam old.trace was.trace.entries);
+    }
 
 -- What a trace got since is what follows its old entries.
 pub since : {X Y : Type 0} (f : X → Y) (old new : List X) (was is : List Y) → map f old ≡ was → map f new ≡ is → map f (take (length new - length old) (drop (length old) new)) ≡ drop (length was) is

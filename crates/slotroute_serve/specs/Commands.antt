@@ -53,7 +53,7 @@ pub record IsCommandRun (handed : Bool) (direction : Direction) (registered : Re
   pub driven : IsDriven (IsRunNode handed entries) step
       (request (map Some words) (names_with registered) entries order) (state old [] false)
       (state new sent false) answer
-  pub ordered : order ≡ send_order direction (length driven.routes)
+  pub ordered : order ≡ send_order direction (length driven.delivered.routes)
   pub printed : text ≡ command_lines sent answer
 
 -- Why a command is refused: it is no complete multi-key command, or its first route without a node

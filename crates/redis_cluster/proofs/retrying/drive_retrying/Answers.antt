@@ -26,7 +26,7 @@ use Rattle.redis_cluster.proofs.Allowed.{allowed_none}
 use Rattle.redis_cluster.proofs.Headline.{begins}
 use Rattle.redis_cluster.proofs.Laws.{one_answer}
 use Rattle.redis_cluster.proofs.Unhindered.{headline_retried, carried_retried, delivered_alone}
-use Rattle.redis_cluster.proofs.Ended.{drivable, tried_whole, cut_short, ended_late, memory_is_no_reply}
+use Rattle.redis_cluster.proofs.Ended.{all_tried, cut_short, ended_late, memory_is_no_reply}
 use Rattle.redis_cluster.proofs.retrying.drive_retrying.Goals as goal
 
 all_three : {T E : Type 0} {A B : Type 0} (P Q : T → Type 0) (r : Result T E) → ((x : T) → A → B → P x → Q x) → OnOk r A → OnOk r B → IfOk r P → IfOk r Q
@@ -52,12 +52,7 @@ returns-in-Ok-retries_of-clause-tried g c =
     let new = nodes.state c.drive_tries.new.nodes in
     let are = each_try _ asked c.args.retries (map (λ t. t.0) plan.split.routes) plan.nodes plan.parts own is.targets_are (subst (λ (o : List Attempt). AllZip (IsRetryOf c.args.slot_map.now c.args.retries) (zip (map (λ t. t.0) c.in-Ok.plan.split.routes) c.in-Ok.plan.nodes) o) (sym c.deref_mut.ensures.value) c.in-Ok-retries_of.ensures.each) in
     traced_so _ c.drive_tries.result
-    (λ value tried. record {
-      routes = map (λ t. t.0) plan.split.routes;
-      command = command;
-      drivable = drivable _ nodes.step asked old new plan command is c.in-Ok.ensures.order;
-      trace = tried_whole _ nodes.step asked old new plan command is c.in-Ok.ensures.order _ (tries_with (targets plan) own) are tried;
-    })
+    (λ value tried. all_tried _ nodes.step asked old new plan command is c.in-Ok.ensures.order _ (tries_with (targets plan) own) are tried)
     c.drive_tries.ensures.trace
 
 pub returns-in-Ok-retries_of-clause-driven : goal.returns-in-Ok-retries_of-clause-driven
@@ -73,10 +68,7 @@ returns-in-Ok-retries_of-clause-driven g c =
     let are = each_try _ asked c.args.retries (map (λ t. t.0) plan.split.routes) plan.nodes plan.parts own is.targets_are (subst (λ (o : List Attempt). AllZip (IsRetryOf c.args.slot_map.now c.args.retries) (zip (map (λ t. t.0) c.in-Ok.plan.split.routes) c.in-Ok.plan.nodes) o) (sym c.deref_mut.ensures.value) c.in-Ok-retries_of.ensures.each) in
     all_three _ _ c.drive_tries.result
     (λ value tried keyspace reply now. record {
-      routes = map (λ t. t.0) plan.split.routes;
-      command = command;
-      drivable = drivable _ nodes.step asked old new plan command is c.in-Ok.ensures.order;
-      trace = tried_whole _ nodes.step asked old new plan command is c.in-Ok.ensures.order _ (tries_with (targets plan) own) are tried;
+      delivered = all_tried _ nodes.step asked old new plan command is c.in-Ok.ensures.order _ (tries_with (targets plan) own) are tried;
       keyspace = keyspace command is.plan_is now;
       reply = reply command is.plan_is now;
     })
