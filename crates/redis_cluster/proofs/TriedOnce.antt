@@ -1,8 +1,7 @@
 -- What stands where each part was sent once.
 use Rattle.std.proofs.Common.{◌≡◌, ℕ, List, [], ◌∷◌, ◌++◌, Option, Some, None, refl, sym, ap, ◌∙◌, subst, map, length, append_assoc, arith}
 use Rattle.std.specs.List.{AllZip}
-use Rattle.std.proofs.lemmas.List.{append-nil}
-use Rattle.std.proofs.lemmas.Grind.{common_steps}
+use Rattle.std.proofs.lemmas.List.{append-nil, length-map}
 use Rattle.resp_core.specs.ErrorParts.{ErrorParts}
 use Rattle.resp_core.specs.Reply.{Reply}
 use Rattle.cluster_slots.specs.Address.{Address}
@@ -72,7 +71,7 @@ driven_once IsNode step r old new value d = record { delivered = delivered_once 
 pub early_plan : (r : Request) (fault : PlanFault) → IsPlanFault r.map r.names r.arguments fault → IsCauseBeforeSending r (fault_of_plan fault)
 early_plan r fault h1 = grind (arith)
 
-module _ {C : Type 0} (step : Step C) (r : Request) (order : List ℕ) (registered : Registrations) (old new : State C) (plan : Plan) (command : MultiKey) (is : IsPlanFor r order registered plan command) (names : NamesOnce (length plan.split.routes) order) where
+module _ {C : Type 0} (step : Step C) (r : Request) (order : List ℕ) (registered : Registrations) (old new : State C) (plan : Plan) (command : MultiKey) (is : IsPlanFor r plan command) (in_this : r.order ≡ order) (of_these : r.names.registered ≡ registered) (names : NamesOnce (length plan.split.routes) order) where
   abbrev IsNode : SlotRoute → Address → Type 0
   IsNode = IsPlanNode plan
 
@@ -80,14 +79,14 @@ module _ {C : Type 0} (step : Step C) (r : Request) (order : List ℕ) (register
   tries = tries_with (targets plan) []
 
   names_asked : NamesOnce (length plan.split.routes) r.order
-  names_asked = subst (λ o. NamesOnce (length plan.split.routes) o) (sym is.1) names
+  names_asked = subst (λ o. NamesOnce (length plan.split.routes) o) (sym in_this) names
 
   each_try : AllZip (IsOnce IsNode r) (map (λ t. t.0) plan.split.routes) tries
-  each_try = each_once IsNode r (map (λ t. t.0) plan.split.routes) (targets plan) is.0.targets_are
+  each_try = each_once IsNode r (map (λ t. t.0) plan.split.routes) (targets plan) is.targets_are
 
   -- what was sent of a plan, each part once
   abbrev pub plan_tried : SentInTurn (in_order tries order) old.trace new.trace → AreAllTried (IsOnce IsNode) r old.trace new.trace
-  plan_tried tried = all_tried IsNode step r old new plan command is.0 names_asked (IsOnce IsNode r) tries each_try (subst (λ o. SentInTurn (in_order tries o) old.trace new.trace) (sym is.1) tried)
+  plan_tried tried = all_tried IsNode step r old new plan command is names_asked (IsOnce IsNode r) tries each_try (subst (λ o. SentInTurn (in_order tries o) old.trace new.trace) (sym in_this) tried)
 
   pub plan_driven : (value : Reply) → SentInTurn (in_order tries order) old.trace new.trace → new.keyspace ≡ keyspace_after step command old.keyspace → value ≡ reply_to step command old.keyspace → IsDriven IsNode step r old new value
   plan_driven value tried keyspace reply = driven_once IsNode step r old new value (record { delivered = plan_tried tried; keyspace = keyspace; reply = reply })
@@ -95,14 +94,19 @@ module _ {C : Type 0} (step : Step C) (r : Request) (order : List ℕ) (register
   pub plan_cut : (kept : Type 0) (may_refuse : ℕ → Ending → Type 0) (fault : DriveFault) (count : ℕ) → AreEndedEarly kept registered step may_refuse plan tries order old.keyspace new.keyspace old.trace new.trace new.mark fault count
       → AreEnded (AreSent IsNode r) (EndsOnce IsNode r) step r kept old new may_refuse count fault
   plan_cut kept may_refuse fault count ended =
-      let short = cut_short IsNode step r old new plan command is.0 names_asked (IsOnce IsNode r) tries each_try kept may_refuse count fault
-      (subst (λ o. AreEndedEarly kept r.names.registered step may_refuse plan tries o old.keyspace new.keyspace old.trace new.trace new.mark fault count) (sym is.1)
-      (subst (λ (reg : Registrations). AreEndedEarly kept reg step may_refuse plan tries order old.keyspace new.keyspace old.trace new.trace new.mark fault count) (sym is.2) ended)) in
+      let short = cut_short IsNode step r old new plan command is names_asked (IsOnce IsNode r) tries each_try kept may_refuse count fault
+      (subst (λ o. AreEndedEarly kept r.names.registered step may_refuse plan tries o old.keyspace new.keyspace old.trace new.trace new.mark fault count) (sym in_this)
+      (subst (λ (reg : Registrations). AreEndedEarly kept reg step may_refuse plan tries order old.keyspace new.keyspace old.trace new.trace new.mark fault count) (sym of_these) ended)) in
       (cut_by (AreTried (IsOnce IsNode r)) (AreSent IsNode r) (EndsTried (IsOnce IsNode r)) (EndsOnce IsNode r) (sent_once IsNode r) (ends_once IsNode r) r old new may_refuse fault count short.0, short.1)
 
 -- an order that does not name each route of a plan once
-pub bad_order : (r : Request) (order : List ℕ) (registered : Registrations) (plan : Plan) (command : MultiKey) → IsPlanFor r order registered plan command → (NamesOnce (length plan.split.routes) order → ⊥) → IsCauseBeforeSending r early.BadOrder
-bad_order r order registered plan command is not = grind (arith, common_steps)
+pub bad_order : (r : Request) (order : List ℕ) (plan : Plan) (command : MultiKey) → IsPlanFor r plan command → r.order ≡ order → (NamesOnce (length plan.split.routes) order → ⊥) → IsCauseBeforeSending r early.BadOrder
+bad_order r order plan command is in_this not = (
+  map (λ t. t.0) plan.split.routes,
+  command,
+  is.is_covered,
+  λ named. not (subst (λ o. NamesOnce (length plan.split.routes) o) in_this (subst (λ n. NamesOnce n r.order) (length-map plan.split.routes (λ t. t.0)) named)),
+)
 
 pub bad_order_is_no_reply : (reply : ErrorParts) → early.BadOrder ≡ early.Reply reply → ⊥
 bad_order_is_no_reply reply is = cc

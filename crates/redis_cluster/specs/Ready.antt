@@ -3,7 +3,6 @@ use Rattle.std.specs.Prelude.{◌≡◌, ℕ, List, Some, map, slice_get}
 use Rattle.std.specs.List.{AllZip}
 use Rattle.cluster_slots.specs.Address.{Address}
 use Rattle.cluster_slots.specs.SlotRoute.{SlotRoute}
-use Rattle.redis_routing.specs.Registry.{Registrations}
 use Rattle.redis_cluster.specs.MultiKey.{MultiKey, part_by_slot}
 use Rattle.redis_cluster.specs.Driven.{Request, IsCoveredCommand}
 use Rattle.redis_cluster.specs.Plan.{Plan}
@@ -29,8 +28,6 @@ IsPlanNode plan route address =
     (number : ℕ) × (places : List ℕ) × (slice_get plan.split.routes number ≡ Some (route, places))
     × (slice_get plan.nodes number ≡ Some address)
 
--- the plan is of a request with this order, under these registrations
-abbrev pub IsPlanFor : Request → List ℕ → Registrations → Plan → MultiKey → Type 0
-IsPlanFor r order registered plan command =
-    IsReady (IsPlanNode plan) r plan command × (r.order ≡ order)
-    × (r.names.registered ≡ registered)
+-- the plan is of this request, and the plan's own nodes are those of its routes
+abbrev pub IsPlanFor : Request → Plan → MultiKey → Type 0
+IsPlanFor r plan command = IsReady (IsPlanNode plan) r plan command

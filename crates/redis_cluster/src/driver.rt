@@ -216,9 +216,11 @@ pub fn drive_plan<R: Routable, N: Nodes>(
     requires command { (c : MultiKey) × IsPlanOf (N.registered nodes.old) c plan }
     // and no reply was given to it yet.
     requires untold { plan.replies ≡ map (λ route. None) plan.split.routes }
-    // For each request that the plan is of, each part goes to the plan's own node of its route.
+    // Take any request that the plan is of, with this order and the names that the nodes registered.
+    // Each part goes to the plan's own node of its route.
     ensures delivered { IfOk result (λ value.
-        (asked : Request) (c : MultiKey) → IsPlanFor asked order.now (N.registered nodes.old) plan.entry c
+        (asked : Request) (c : MultiKey) → IsPlanFor asked plan.entry c
+        → asked.order ≡ order.now → asked.names.registered ≡ N.registered nodes.old
         → IsDelivered (IsPlanNode plan.entry) asked (N.state nodes.old).trace (N.state nodes.new).trace) }
     ensures joined { ReturnsJoined (N.registered nodes.old) plan.entry.split.arguments order.now
         (N.gave nodes.old) (N.gave nodes.new) result }
@@ -227,27 +229,32 @@ pub fn drive_plan<R: Routable, N: Nodes>(
         IsServedAmid N.Cell (N.registered nodes.old) plan.entry.split.arguments order.now
         (N.gave nodes.old) (N.gave nodes.new) (view value)) }
     ensures driven { IfOk result (λ value.
-        (asked : Request) (c : MultiKey) → IsPlanFor asked order.now (N.registered nodes.old) plan.entry c → N.kept nodes.new
-        → IsDriven (IsPlanNode plan.entry) N.step asked
+        (asked : Request) (c : MultiKey) → IsPlanFor asked plan.entry c
+        → asked.order ≡ order.now → asked.names.registered ≡ N.registered nodes.old
+        → N.kept nodes.new → IsDriven (IsPlanNode plan.entry) N.step asked
         (N.state nodes.old) (N.state nodes.new)
         (view value)) }
     ensures headline { IfErr result (λ e.
-        (asked : Request) (c : MultiKey) → IsPlanFor asked order.now (N.registered nodes.old) plan.entry c
+        (asked : Request) (c : MultiKey) → IsPlanFor asked plan.entry c
+        → asked.order ≡ order.now → asked.names.registered ≡ N.registered nodes.old
         → IsUnhindered (N.may_refuse nodes.old) asked (N.state nodes.old).trace
         → N.kept nodes.new → e.fault ≡ DriveFault.Memory) }
     ensures carried { IfErr result (λ e.
-        (asked : Request) (c : MultiKey) → IsPlanFor asked order.now (N.registered nodes.old) plan.entry c
+        (asked : Request) (c : MultiKey) → IsPlanFor asked plan.entry c
+        → asked.order ≡ order.now → asked.names.registered ≡ N.registered nodes.old
         → (routes : List SlotRoute) → IsDrivable asked routes c
         → AreAllAnswered (N.state nodes.old).trace (N.state nodes.new).trace
         → N.kept nodes.new → e.fault ≡ DriveFault.Memory) }
     ensures cut { IfErr result (λ e.
-        (asked : Request) (c : MultiKey) → IsPlanFor asked order.now (N.registered nodes.old) plan.entry c
+        (asked : Request) (c : MultiKey) → IsPlanFor asked plan.entry c
+        → asked.order ≡ order.now → asked.names.registered ≡ N.registered nodes.old
         → IsCut (IsPlanNode plan.entry) asked
         (N.state nodes.old) (N.state nodes.new)
         (N.may_refuse nodes.old) e.fault e.answered) }
     ensures fault { IfErr result (λ e.
-        (asked : Request) (c : MultiKey) → IsPlanFor asked order.now (N.registered nodes.old) plan.entry c → N.kept nodes.new
-        → IsFault (IsPlanNode plan.entry) N.step asked
+        (asked : Request) (c : MultiKey) → IsPlanFor asked plan.entry c
+        → asked.order ≡ order.now → asked.names.registered ≡ N.registered nodes.old
+        → N.kept nodes.new → IsFault (IsPlanNode plan.entry) N.step asked
         (N.state nodes.old) (N.state nodes.new)
         (N.may_refuse nodes.old) e.fault e.answered) }
     ensures given { IfErr result (λ e. HaveGiven (N.gave nodes.old) (N.gave nodes.new) e.answered) }

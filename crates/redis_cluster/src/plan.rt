@@ -133,8 +133,7 @@ impl<'a, R: Routable> SplitPlan<'a, R> {
             → names.entry.registry.now ≡ registered → (c : MultiKey) × IsPlanOf registered c plan) }
         // So it is ready to be driven, in any order.
         ensures ready { IfOk result (λ plan. (order : List ℕ) → (c : MultiKey) × IsPlanFor
-            (request (R.args command.now) (names_in names.entry) slot_map.now order) order
-            names.entry.registry.now plan c) }
+            (request (R.args command.now) (names_in names.entry) slot_map.now order) plan c) }
         ensures fault { IfErr result
             (λ fault.
             IsPlanFault slot_map.now (names_in names.entry) (R.args command.now) fault) }

@@ -25,42 +25,42 @@ use Rattle.redis_cluster.proofs.driver.drive.Goals as goal
 pub returns-in-Ok-clause-delivered : goal.returns-in-Ok-clause-delivered
 returns-in-Ok-clause-delivered g c =
     let asked_by : Registrations → Request = λ registered. request (g.R.Routable.args c.args.command.now) (names_of c.args.read_only.now registered) c.args.slot_map.now c.args.order.now in
-    let ready = subst (λ registered. (command : MultiKey) × IsPlanFor (asked_by registered) c.args.order.now registered c.in-Ok.plan command) c.registry.ensures (c.in-Ok.ensures.ready c.args.order.now) in
+    let ready = subst (λ registered. (command : MultiKey) × IsPlanFor (asked_by registered) c.in-Ok.plan command) c.registry.ensures (c.in-Ok.ensures.ready c.args.order.now) in
     let asked = request (g.R.Routable.args c.args.command.now) (names_of c.args.read_only.now (g.N.Nodes.registered c.args.nodes.now)) c.args.slot_map.now c.args.order.now in
     IfOk-weaker c.drive_plan.result _ _
-    (λ value said. delivered_at (IsPlanNode c.in-Ok.plan) _ (plan_node _ c.in-Ok.plan c.in-Ok.ensures.nodes) asked (g.N.Nodes.state c.args.nodes.now).trace (g.N.Nodes.state c.drive_plan.new.nodes).trace (said asked ready.0 ready.1))
+    (λ value said. delivered_at (IsPlanNode c.in-Ok.plan) _ (plan_node _ c.in-Ok.plan c.in-Ok.ensures.nodes) asked (g.N.Nodes.state c.args.nodes.now).trace (g.N.Nodes.state c.drive_plan.new.nodes).trace (said asked ready.0 ready.1 refl refl))
     c.drive_plan.ensures.delivered
 
 pub returns-in-Ok-clause-driven : goal.returns-in-Ok-clause-driven
 returns-in-Ok-clause-driven g c =
     let asked_by : Registrations → Request = λ registered. request (g.R.Routable.args c.args.command.now) (names_of c.args.read_only.now registered) c.args.slot_map.now c.args.order.now in
-    let ready = subst (λ registered. (command : MultiKey) × IsPlanFor (asked_by registered) c.args.order.now registered c.in-Ok.plan command) c.registry.ensures (c.in-Ok.ensures.ready c.args.order.now) in
+    let ready = subst (λ registered. (command : MultiKey) × IsPlanFor (asked_by registered) c.in-Ok.plan command) c.registry.ensures (c.in-Ok.ensures.ready c.args.order.now) in
     let asked = request (g.R.Routable.args c.args.command.now) (names_of c.args.read_only.now (g.N.Nodes.registered c.args.nodes.now)) c.args.slot_map.now c.args.order.now in
     let old = g.N.Nodes.state c.args.nodes.now in
     let new = g.N.Nodes.state c.drive_plan.new.nodes in
     IfOk-weaker c.drive_plan.result _ _
-    (λ value said now. driven_at (IsPlanNode c.in-Ok.plan) _ (plan_node _ c.in-Ok.plan c.in-Ok.ensures.nodes) g.N.Nodes.step asked old new _ (said asked ready.0 ready.1 now))
+    (λ value said now. driven_at (IsPlanNode c.in-Ok.plan) _ (plan_node _ c.in-Ok.plan c.in-Ok.ensures.nodes) g.N.Nodes.step asked old new _ (said asked ready.0 ready.1 refl refl now))
     c.drive_plan.ensures.driven
 
 pub returns-in-Ok-clause-cut : goal.returns-in-Ok-clause-cut
 returns-in-Ok-clause-cut g c =
     let asked_by : Registrations → Request = λ registered. request (g.R.Routable.args c.args.command.now) (names_of c.args.read_only.now registered) c.args.slot_map.now c.args.order.now in
-    let ready = subst (λ registered. (command : MultiKey) × IsPlanFor (asked_by registered) c.args.order.now registered c.in-Ok.plan command) c.registry.ensures (c.in-Ok.ensures.ready c.args.order.now) in
+    let ready = subst (λ registered. (command : MultiKey) × IsPlanFor (asked_by registered) c.in-Ok.plan command) c.registry.ensures (c.in-Ok.ensures.ready c.args.order.now) in
     let asked = request (g.R.Routable.args c.args.command.now) (names_of c.args.read_only.now (g.N.Nodes.registered c.args.nodes.now)) c.args.slot_map.now c.args.order.now in
     let nodes = g.N.Nodes in
     IfErr-weaker c.drive_plan.result _ _
-    (λ e said. cut_at (IsPlanNode c.in-Ok.plan) _ (plan_node _ c.in-Ok.plan c.in-Ok.ensures.nodes) asked (nodes.state c.args.nodes.now) (nodes.state c.drive_plan.new.nodes) (nodes.may_refuse c.args.nodes.now) e.fault e.answered (said asked ready.0 ready.1))
+    (λ e said. cut_at (IsPlanNode c.in-Ok.plan) _ (plan_node _ c.in-Ok.plan c.in-Ok.ensures.nodes) asked (nodes.state c.args.nodes.now) (nodes.state c.drive_plan.new.nodes) (nodes.may_refuse c.args.nodes.now) e.fault e.answered (said asked ready.0 ready.1 refl refl))
     c.drive_plan.ensures.cut
 
 pub returns-in-Ok-clause-fault : goal.returns-in-Ok-clause-fault
 returns-in-Ok-clause-fault g c =
     let asked_by : Registrations → Request = λ registered. request (g.R.Routable.args c.args.command.now) (names_of c.args.read_only.now registered) c.args.slot_map.now c.args.order.now in
-    let ready = subst (λ registered. (command : MultiKey) × IsPlanFor (asked_by registered) c.args.order.now registered c.in-Ok.plan command) c.registry.ensures (c.in-Ok.ensures.ready c.args.order.now) in
+    let ready = subst (λ registered. (command : MultiKey) × IsPlanFor (asked_by registered) c.in-Ok.plan command) c.registry.ensures (c.in-Ok.ensures.ready c.args.order.now) in
     let asked = request (g.R.Routable.args c.args.command.now) (names_of c.args.read_only.now (g.N.Nodes.registered c.args.nodes.now)) c.args.slot_map.now c.args.order.now in
     let old = g.N.Nodes.state c.args.nodes.now in
     let new = g.N.Nodes.state c.drive_plan.new.nodes in
     IfErr-weaker c.drive_plan.result _ _
-    (λ e said now. fault_at (IsPlanNode c.in-Ok.plan) _ (plan_node _ c.in-Ok.plan c.in-Ok.ensures.nodes) asked old new (g.N.Nodes.may_refuse c.args.nodes.now) e.fault e.answered g.N.Nodes.step (said asked ready.0 ready.1 now))
+    (λ e said now. fault_at (IsPlanNode c.in-Ok.plan) _ (plan_node _ c.in-Ok.plan c.in-Ok.ensures.nodes) asked old new (g.N.Nodes.may_refuse c.args.nodes.now) e.fault e.answered g.N.Nodes.step (said asked ready.0 ready.1 refl refl now))
     c.drive_plan.ensures.fault
 
 pub returns-in-Ok-clause-joined : goal.returns-in-Ok-clause-joined

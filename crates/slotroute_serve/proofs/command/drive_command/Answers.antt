@@ -1,4 +1,4 @@
-use Rattle.std.proofs.Common.{◌∙◌, ap, Some, map, subst}
+use Rattle.std.proofs.Common.{◌∙◌, refl, ap, Some, map, subst}
 use Rattle.memory_nodes.specs.Nodes.{registered_in, keyspace_in, trace_in, mark_in, MayRefuse}
 use Rattle.redis_cluster.specs.Driven.{Request, request}
 use Rattle.redis_cluster.specs.State.{state}
@@ -20,13 +20,13 @@ command_fault-requires g c =
     let order = c.deref.result.now in
     let plan = c.in_ok-plan.plan in
     let asked : Registrations → Request = λ known. request (map Some words) (names_of names known) entries order in
-    let ready = subst (λ known. (command : MultiKey) × IsPlanFor (asked known) order known plan command) c.registry.ensures (c.in_ok-plan.ensures.ready order) in
-    let is_order = plan_order c.args.direction.now (names_of names registered) words order plan.split.routes (covered_routes (asked registered) (map (λ t. t.0) plan.split.routes) ready.0 ready.1.0.is_covered) (c.deref.ensures.value ∙ c.in_ok-order.ensures ∙ ap (send_order c.args.direction.now) c.len.ensures.len) in
+    let ready = subst (λ known. (command : MultiKey) × IsPlanFor (asked known) plan command) c.registry.ensures (c.in_ok-plan.ensures.ready order) in
+    let is_order = plan_order c.args.direction.now (names_of names registered) words order plan.split.routes (covered_routes (asked registered) (map (λ t. t.0) plan.split.routes) ready.0 ready.1.is_covered) (c.deref.ensures.value ∙ c.in_ok-order.ensures ∙ ap (send_order c.args.direction.now) c.len.ensures.len) in
     let old = state (keyspace_in c.args.nodes.now) (trace_in c.args.nodes.now) (mark_in c.args.nodes.now) in
     let new = state (keyspace_in c.drive_plan.new.nodes) (trace_in c.drive_plan.new.nodes) (mark_in c.drive_plan.new.nodes) in
     let fault = c.in-Err.error.fault in
     let answered = c.in-Err.error.answered in
-    let is_fault = c.in-Err.ensures.fault (asked registered) ready.0 ready.1 tt in
+    let is_fault = c.in-Err.ensures.fault (asked registered) ready.0 ready.1 refl refl tt in
     good_order (IsPlanNode plan) names registered words entries order old new (MayRefuse c.args.nodes.now) c.args.direction.now fault answered is_order is_fault
 
 pub returns-in-Ok-clause-driven : goal.returns-in-Ok-clause-driven
@@ -38,14 +38,14 @@ returns-in-Ok-clause-driven g c =
     let order = c.deref.result.now in
     let plan = c.in_ok-plan.plan in
     let asked : Registrations → Request = λ known. request (map Some words) (names_of names known) entries order in
-    let ready = subst (λ known. (command : MultiKey) × IsPlanFor (asked known) order known plan command) c.registry.ensures (c.in_ok-plan.ensures.ready order) in
-    let is_order = plan_order c.args.direction.now (names_of names registered) words order plan.split.routes (covered_routes (asked registered) (map (λ t. t.0) plan.split.routes) ready.0 ready.1.0.is_covered) (c.deref.ensures.value ∙ c.in_ok-order.ensures ∙ ap (send_order c.args.direction.now) c.len.ensures.len) in
+    let ready = subst (λ known. (command : MultiKey) × IsPlanFor (asked known) plan command) c.registry.ensures (c.in_ok-plan.ensures.ready order) in
+    let is_order = plan_order c.args.direction.now (names_of names registered) words order plan.split.routes (covered_routes (asked registered) (map (λ t. t.0) plan.split.routes) ready.0 ready.1.is_covered) (c.deref.ensures.value ∙ c.in_ok-order.ensures ∙ ap (send_order c.args.direction.now) c.len.ensures.len) in
     let old = state (keyspace_in c.args.nodes.now) (trace_in c.args.nodes.now) (mark_in c.args.nodes.now) in
     let new = state (keyspace_in c.drive_plan.new.nodes) (trace_in c.drive_plan.new.nodes) (mark_in c.drive_plan.new.nodes) in (
       order,
       order_with c.args.direction.now names registered words order c.requires.names is_order,
       driven_by c.args.strategy (λ s. (goal.ReadRoutingStrategy-dyn g s.now).picks s.now.1) plan names registered words entries order old new _ c.requires.names c.in_ok-plan.ensures.nodes
-          (c.in-Ok.ensures.driven (asked registered) ready.0 ready.1 tt),
+          (c.in-Ok.ensures.driven (asked registered) ready.0 ready.1 refl refl tt),
     )
 
 pub returns-in-Ok-clause-willing : goal.returns-in-Ok-clause-willing
@@ -63,13 +63,13 @@ returns-clause-refused g c =
     let order = c.deref.result.now in
     let plan = c.in_ok-plan.plan in
     let asked : Registrations → Request = λ known. request (map Some words) (names_of names known) entries order in
-    let ready = subst (λ known. (command : MultiKey) × IsPlanFor (asked known) order known plan command) c.registry.ensures (c.in_ok-plan.ensures.ready order) in
-    let is_order = plan_order c.args.direction.now (names_of names registered) words order plan.split.routes (covered_routes (asked registered) (map (λ t. t.0) plan.split.routes) ready.0 ready.1.0.is_covered) (c.deref.ensures.value ∙ c.in_ok-order.ensures ∙ ap (send_order c.args.direction.now) c.len.ensures.len) in
+    let ready = subst (λ known. (command : MultiKey) × IsPlanFor (asked known) plan command) c.registry.ensures (c.in_ok-plan.ensures.ready order) in
+    let is_order = plan_order c.args.direction.now (names_of names registered) words order plan.split.routes (covered_routes (asked registered) (map (λ t. t.0) plan.split.routes) ready.0 ready.1.is_covered) (c.deref.ensures.value ∙ c.in_ok-order.ensures ∙ ap (send_order c.args.direction.now) c.len.ensures.len) in
     let old = state (keyspace_in c.args.nodes.now) (trace_in c.args.nodes.now) (mark_in c.args.nodes.now) in
     let new = state (keyspace_in c.drive_plan.new.nodes) (trace_in c.drive_plan.new.nodes) (mark_in c.drive_plan.new.nodes) in
     let fault = c.in-Err.error.fault in
     let answered = c.in-Err.error.answered in
-    let is_fault = c.in-Err.ensures.fault (asked registered) ready.0 ready.1 tt in
+    let is_fault = c.in-Err.ensures.fault (asked registered) ready.0 ready.1 refl refl tt in
     rw c.command_fault.ensures
     (why_not_run (IsPlanNode plan) names registered words entries order old new (MayRefuse c.args.nodes.now) c.requires.names c.requires.willing fault answered
     (good_order (IsPlanNode plan) names registered words entries order old new (MayRefuse c.args.nodes.now) c.args.direction.now fault answered is_order is_fault) is_fault)
@@ -83,12 +83,12 @@ returns-clause-unsent g c =
     let order = c.deref.result.now in
     let plan = c.in_ok-plan.plan in
     let asked : Registrations → Request = λ known. request (map Some words) (names_of names known) entries order in
-    let ready = subst (λ known. (command : MultiKey) × IsPlanFor (asked known) order known plan command) c.registry.ensures (c.in_ok-plan.ensures.ready order) in
-    let is_order = plan_order c.args.direction.now (names_of names registered) words order plan.split.routes (covered_routes (asked registered) (map (λ t. t.0) plan.split.routes) ready.0 ready.1.0.is_covered) (c.deref.ensures.value ∙ c.in_ok-order.ensures ∙ ap (send_order c.args.direction.now) c.len.ensures.len) in
+    let ready = subst (λ known. (command : MultiKey) × IsPlanFor (asked known) plan command) c.registry.ensures (c.in_ok-plan.ensures.ready order) in
+    let is_order = plan_order c.args.direction.now (names_of names registered) words order plan.split.routes (covered_routes (asked registered) (map (λ t. t.0) plan.split.routes) ready.0 ready.1.is_covered) (c.deref.ensures.value ∙ c.in_ok-order.ensures ∙ ap (send_order c.args.direction.now) c.len.ensures.len) in
     let old = state (keyspace_in c.args.nodes.now) (trace_in c.args.nodes.now) (mark_in c.args.nodes.now) in
     let new = state (keyspace_in c.drive_plan.new.nodes) (trace_in c.drive_plan.new.nodes) (mark_in c.drive_plan.new.nodes) in
     let fault = c.in-Err.error.fault in
     let answered = c.in-Err.error.answered in
-    let is_fault = c.in-Err.ensures.fault (asked registered) ready.0 ready.1 tt in
+    let is_fault = c.in-Err.ensures.fault (asked registered) ready.0 ready.1 refl refl tt in
     rw c.command_fault.ensures
     (unsent (IsPlanNode plan) names registered words entries order old new (MayRefuse c.args.nodes.now) c.requires.willing fault answered is_fault)

@@ -1,4 +1,4 @@
-use Rattle.std.proofs.Common.{◌≡◌, ◌⊎◌, ℕ, List, [], Some, IfSome, Result, Ok, Err, IsErrAnd, IfErr, refl, ap, sym, subst, ◌∙◌, false, length, map, option_map, replicate, arith}
+use Rattle.std.proofs.Common.{◌≡◌, ◌⊎◌, ℕ, List, [], Some, IfSome, Result, Ok, Err, IsErrAnd, IfErr, ap, sym, subst, ◌∙◌, false, length, map, option_map, replicate, arith}
 use Rattle.std.specs.List.{AllZip}
 use Rattle.std.specs.declared.alloc.Global.{Global}
 use Rattle.std.specs.declared.vec.Vec.{Vec}
@@ -106,14 +106,13 @@ returns-clause-ready g c = λ order.
     let found = c.in_ok-split.field-0 in
     let whole = (invariant_of-result g c).0 in
     let plan : Plan = record { split = split; nodes = map (λ n. n.now) c.in_ok-nodes.nodes.items; parts = c.in_ok-parts.parts.items; replies = marked_replies c.in_ok-answered.answered.items c.in_ok-replies.replies.items } in
-    let made = ready (IsPlanNode plan) (request args names c.args.slot_map.now order) plan
+    ready (IsPlanNode plan) (request args names c.args.slot_map.now order) plan
     (of_some _ found split c.in-Some.is new.arguments)
     (sym (ap (option_map (λ s. s.routes)) c.in-Some.is) ∙ new.routes) (of_some _ found split c.in-Some.is new.pattern) (of_some _ found split c.in-Some.is new.policy)
-    whole (own_nodes plan whole.nodes) (returns-clause-covered g c) in
-    (made.0, (made.1, refl, refl))
+    whole (own_nodes plan whole.nodes) (returns-clause-covered g c)
 
 pub returns-clause-command : goal.returns-clause-command
 returns-clause-command g c = λ registered same.
     let plan : Plan = record { split = c.in-Some.split; nodes = map (λ n. n.now) c.in_ok-nodes.nodes.items; parts = c.in_ok-parts.parts.items; replies = marked_replies c.in_ok-answered.answered.items c.in_ok-replies.replies.items } in
     let made = returns-clause-ready g c [] in
-    subst (λ known. (command : MultiKey) × IsPlanOf known command plan) same (made.0, made.1.0.plan_is)
+    subst (λ known. (command : MultiKey) × IsPlanOf known command plan) same (made.0, made.1.plan_is)
