@@ -2,7 +2,7 @@ ghost use Rattle.std.specs.Prelude.{◌≡◌, ◌⊎◌, ◌<◌, ◌≤◌, �
 ghost use Rattle.std.specs.Vec.{vec_len, vec_capacity};
 ghost use Rattle.resp_core.specs.View.{view};
 ghost use Rattle.redis_cluster.specs.MultiKey.{multi_key};
-ghost use Rattle.redis_cluster.specs.Sent.{IsLeft, IsUnanswered, ending_of};
+ghost use Rattle.redis_cluster.specs.Sends.{IsLeft, IsUnanswered, ending_of};
 ghost use Rattle.redis_cluster.specs.Trace.{Ending, answered, refused, redirected, entry};
 ghost use Rattle.redis_cluster.specs.Unsplit.{keyspace_after, reply_to};
 ghost use Rattle.memory_nodes.specs.Cells.{Cell, value_at};

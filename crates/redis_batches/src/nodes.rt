@@ -3,7 +3,7 @@ ghost use Rattle.resp_core.specs.Answer.{Answer, answer_of};
 ghost use Rattle.redis_routing.specs.Registry.{Registrations};
 ghost use Rattle.resp_core.specs.ErrorParts.{ErrorParts};
 ghost use Rattle.cluster_slots.specs.Address.{Address};
-ghost use Rattle.redis_cluster.specs.Sent.{IsIdleIfRefused};
+ghost use Rattle.redis_cluster.specs.Sends.{IsIdleIfRefused};
 ghost use Rattle.redis_cluster.specs.Trace.{Ending};
 ghost use Rattle.redis_cluster.specs.Unsplit.{Step};
 ghost use Rattle.redis_cluster.specs.State.{State};

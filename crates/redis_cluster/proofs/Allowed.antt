@@ -5,9 +5,9 @@ use Rattle.std.specs.Prelude.{slice_get, OnOk, Bool}
 use Rattle.std.proofs.lemmas.List.{append-nil, length-append}
 use Rattle.cluster_slots.specs.Address.{Address}
 use Rattle.redis_cluster.specs.Trace.{Entry, Ending, answered, entry}
-use Rattle.redis_cluster.specs.Sent.{IsUnanswered, ending_of}
+use Rattle.redis_cluster.specs.Sends.{IsUnanswered, ending_of}
 use Rattle.redis_cluster.specs.declared.nodes.SendError.{SendError}
-use Rattle.redis_cluster.specs.Attempts.{AreAllowed}
+use Rattle.redis_cluster.specs.Retry.{AreAllowed}
 use Rattle.redis_cluster.proofs.Constructors.{none_apart}
 
 -- an element of two lists, one behind the other, is of the first or of the second

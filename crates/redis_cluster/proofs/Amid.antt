@@ -19,7 +19,7 @@ use Rattle.redis_cluster.specs.Joined.{HaveReplied, IsJoined, IsOutcome}
 use Rattle.redis_cluster.specs.MultiKey.{KeyTuple, MultiKey, multi_key, part_by_slot, part_of, slots_in, tuples_of_slot}
 use Rattle.redis_cluster.specs.Orders.{NamesOnce, in_order, times}
 use Rattle.redis_cluster.specs.Plan.{IsMadeOfParts, Plan}
-use Rattle.redis_cluster.specs.Sends.{IsPlanOf}
+use Rattle.redis_cluster.specs.Ready.{IsPlanOf}
 use Rattle.redis_cluster.specs.SlotItems.{items_of_slot}
 use Rattle.redis_cluster.specs.Unsplit.{Act, Step, Keyspace, act_of, after, keyspace_after, put, results, results_of, reply_by, reply_to}
 use Rattle.redis_cluster.proofs.CommandParts.{part_by_command}

@@ -13,17 +13,16 @@ use Rattle.cluster_slots.specs.SlotRoute.{SlotRoute}
 use Rattle.cluster_map.specs.SlotNodes.{SlotNodes}
 use Rattle.cluster_map.specs.RangeMap as ranges
 use Rattle.redis_cluster.specs.Driven.{Request}
-use Rattle.redis_cluster.specs.Ready.{IsTarget}
+use Rattle.redis_cluster.specs.Ready.{IsTarget, tries_with}
 use Rattle.redis_cluster.specs.Retried.{IsTryOf}
-use Rattle.redis_cluster.specs.Retry.{Attempt, IsRetryOf}
-use Rattle.redis_cluster.specs.Tries.{tries_with}
+use Rattle.redis_cluster.specs.Retry.{RetryState, IsRetryOf}
 use Rattle.redis_routing.specs.RoutingInfo.{route_lists}
 use Rattle.redis_cluster.specs.Plan.{Plan, IsRoutedPlan}
 use Rattle.redis_cluster.proofs.Constructors.{none_apart, same_some}
 use Rattle.redis_cluster.proofs.Covered.{firsts-route_lists}
 use Rattle.redis_cluster.proofs.Zips.{zip_long}
 
-pub each_try : (IsNode : SlotRoute → Address → Type 0) (r : Request) (retries : ℕ) (routes : List SlotRoute) (nodes : List Address) (parts : List (List (List ℕ))) (own : List Attempt) → AllZip (IsTarget IsNode r) routes (zip nodes parts)
+pub each_try : (IsNode : SlotRoute → Address → Type 0) (r : Request) (retries : ℕ) (routes : List SlotRoute) (nodes : List Address) (parts : List (List (List ℕ))) (own : List RetryState) → AllZip (IsTarget IsNode r) routes (zip nodes parts)
     → AllZip (IsRetryOf r.map retries) (zip routes nodes) own → AllZip (IsTryOf IsNode retries r) routes (tries_with (zip nodes parts) own)
 each_try IsNode r retries [] [] parts own each begun = tt
 each_try IsNode r retries [] (n ∷ nodes) [] own each begun = tt
@@ -34,11 +33,11 @@ each_try IsNode r retries (route ∷ routes) (n ∷ nodes) (p ∷ parts) [] each
 each_try IsNode r retries (route ∷ routes) (n ∷ nodes) (p ∷ parts) (o ∷ own) each begun = grind (arith, common_steps, each_try IsNode r retries routes nodes parts own each.1 begun.1)
 
 -- each retry names a target at first
-pub each_named : (map : List (ranges.RangeEntry SlotNodes)) (retries : ℕ) (places : List (SlotRoute × Address)) (own : List Attempt) → AllZip (IsRetryOf map retries) places own → All (λ (retry : Attempt). IsSome retry.target) own
-each_named map retries [] [] begun = All-nil (λ (retry : Attempt). IsSome retry.target)
+pub each_named : (map : List (ranges.RangeEntry SlotNodes)) (retries : ℕ) (places : List (SlotRoute × Address)) (own : List RetryState) → AllZip (IsRetryOf map retries) places own → All (λ (retry : RetryState). IsSome retry.target) own
+each_named map retries [] [] begun = All-nil (λ (retry : RetryState). IsSome retry.target)
 each_named map retries [] (o ∷ own) begun = absurd begun
 each_named map retries (p ∷ places) [] begun = absurd begun
-each_named map retries (p ∷ places) (o ∷ own) begun = All-cons (λ (retry : Attempt). IsSome retry.target) o own (subst IsSome (sym begun.0.target) (search rules)) (each_named map retries places own begun.1)
+each_named map retries (p ∷ places) (o ∷ own) begun = All-cons (λ (retry : RetryState). IsSome retry.target) o own (subst IsSome (sym begun.0.target) (search rules)) (each_named map retries places own begun.1)
 
 -- what stands at a place of two lists beside each other
 zip_there : {A B : Type 0} (xs : List A) (ys : List B) (k : ℕ) (x : A) (y : B) → slice_get xs k ≡ Some x → slice_get ys k ≡ Some y → slice_get (zip xs ys) k ≡ Some (x, y)
@@ -58,7 +57,7 @@ get_map f (y ∷ xs) zero x at = ap (λ z. Some (f z)) (same_some y x at)
 get_map f (y ∷ xs) (suc k) x at = get_map f xs k x at
 
 -- one retry more
-pub one_more : (entries : List (ranges.RangeEntry SlotNodes)) (retries : ℕ) (routes : List SlotRoute) (nodes : List Address) (own : List Attempt) (number : ℕ) (route : SlotRoute) (node : Address) (retry : Attempt)
+pub one_more : (entries : List (ranges.RangeEntry SlotNodes)) (retries : ℕ) (routes : List SlotRoute) (nodes : List Address) (own : List RetryState) (number : ℕ) (route : SlotRoute) (node : Address) (retry : RetryState)
     → AllZip (IsRetryOf entries retries) (take number (zip routes nodes)) own → slice_get routes number ≡ Some route → slice_get nodes number ≡ Some node → IsRetryOf entries retries (route, node) retry
     → AllZip (IsRetryOf entries retries) (take (number + 1) (zip routes nodes)) (own ++ retry ∷ [])
 one_more entries retries routes nodes own number route node retry so_far at_route at_node begun = grind (arith, common_steps, take_there (zip routes nodes) number (route, node) (zip_there routes nodes number route node at_route at_node), zip_there routes nodes number route node at_route at_node, all_zipped_more (IsRetryOf entries retries) (take number (zip routes nodes)) own (route, node) retry so_far begun)

@@ -15,7 +15,6 @@ use Rattle.cluster_slots.specs.SlotRoute.{SlotRoute}
 use Rattle.redis_routing.specs.Registry.{Registrations}
 use Rattle.redis_cluster.specs.MultiKey.{MultiKey}
 use Rattle.redis_cluster.specs.Orders.{NamesOnce, in_order, tuples_of_slots}
-use Rattle.redis_cluster.specs.Sent.{ending_of}
 use Rattle.redis_cluster.specs.Trace.{Entry, Ending, answered, refused, redirected, lost}
 use Rattle.redis_cluster.specs.Unsplit.{Step, Keyspace, act_of, after, keyspace_after}
 use Rattle.redis_cluster.specs.declared.nodes.SendError.{SendError}
@@ -27,10 +26,9 @@ use Rattle.redis_cluster.specs.Ended.{AreEndedEarly, AreStopped}
 use Rattle.redis_cluster.specs.Faults.{fault_of_send, IsBefore, IsReachOf, TookEffect, WereCutShort, whole, up_to}
 use Rattle.redis_cluster.specs.Plan.{Plan}
 use Rattle.redis_routing.specs.Split.{slots_of}
-use Rattle.redis_cluster.specs.Attempts.{Try, IsCause}
+use Rattle.redis_cluster.specs.Retry.{Try, IsCause, SentInTurn}
 use Rattle.redis_cluster.specs.Retried.{AreTried, EndsTried}
-use Rattle.redis_cluster.specs.Sends.{SlotsTookEffect}
-use Rattle.redis_cluster.specs.Tries.{SentInTurn}
+use Rattle.redis_cluster.specs.Sends.{ending_of, SlotsTookEffect}
 use Rattle.redis_cluster.specs.declared.fault.DriveFault.{DriveFault}
 use Rattle.redis_cluster.specs.declared.fault.DriveFault.TheVariants as early
 use Rattle.redis_cluster.specs.Ready.{IsReady}

@@ -18,7 +18,7 @@ use Rattle.std.proofs.lemmas.Grind.{common_steps}
 use Rattle.redis_cluster.specs.Unsplit.{Step}
 use Rattle.redis_cluster.specs.Driven.{Request, command_routes_by, IsDrivable, IsEntryOf, AreSent, AreAllAnswered, IsUnhindered}
 use Rattle.redis_cluster.specs.State.{State}
-use Rattle.redis_cluster.specs.Attempts.{IsCause}
+use Rattle.redis_cluster.specs.Retry.{IsCause}
 use Rattle.redis_cluster.specs.Faults.{IsCauseBeforeSending, EndsOnce, IsFault, IsFaultBy, Reach, WentOut, WereCutShort, up_to}
 use Rattle.redis_cluster.specs.declared.fault.DriveFault.{DriveFault}
 use Rattle.redis_cluster.specs.declared.fault.DriveFault.TheVariants.{NotMultiKey, NotCovered, BadOrder, Memory, Node, Redirected, Lost, Reply}

@@ -5,7 +5,7 @@ use Rattle.std.specs.Prelude.{slice_get, count_by}
 use Rattle.std.proofs.lemmas.List.Sums.{sum_by-cons}
 use Rattle.cluster_slots.specs.Address.{Address}
 use Rattle.redis_cluster.specs.Trace.{Entry, Ending, answered, entry}
-use Rattle.redis_cluster.specs.Attempts.{Try, is_answered, HaveOneAnswer, last_or, last_ending, next_place, next_address, AreBegun, AttemptsOf}
+use Rattle.redis_cluster.specs.Retry.{Try, is_answered, HaveOneAnswer, last_or, last_ending, next_place, next_address, AreBegun, AttemptsOf}
 use Rattle.redis_cluster.proofs.Constructors.{same_some, none_apart}
 
 -- nothing comes behind an answer

@@ -5,11 +5,11 @@ use Rattle.resp_core.specs.Reply.{Reply}
 use Rattle.resp_core.specs.View.{view}
 use Rattle.resp_core.specs.declared.value.Value.{Value}
 use Rattle.cluster_slots.specs.Address.{Address}
-use Rattle.redis_cluster.specs.Attempts.{Try, AttemptsOf}
+use Rattle.redis_cluster.specs.Retry.{Try, AttemptsOf}
 use Rattle.redis_cluster.specs.Frame.{SameNodes}
 use Rattle.redis_cluster.specs.MultiKey.{multi_key}
-use Rattle.redis_cluster.specs.PartSends.{IsPartAnswered, IsPartUnanswered}
-use Rattle.redis_cluster.specs.Sent.{IsLeft, IsUnanswered, ending_of}
+use Rattle.redis_cluster.specs.Ended.{IsPartAnswered, IsPartUnanswered}
+use Rattle.redis_cluster.specs.Sends.{IsLeft, IsUnanswered, ending_of}
 use Rattle.redis_cluster.specs.Trace.{answered}
 use Rattle.redis_cluster.specs.Unsplit.{keyspace_after, reply_to}
 use Rattle.redis_cluster.specs.declared.nodes.Nodes.{Ghosts}

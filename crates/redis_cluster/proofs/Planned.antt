@@ -20,8 +20,7 @@ use Rattle.redis_cluster.proofs.CommandParts.{part_by_command, routes_by_command
 use Rattle.redis_cluster.proofs.SplitParts.{command_of_routes, is_made, part_means, pattern_made, policy_made}
 use Rattle.redis_cluster.specs.Driven.{Request}
 use Rattle.redis_cluster.specs.Plan.{Plan, IsRoutedPlan}
-use Rattle.redis_cluster.specs.Sends.{IsPlanOf}
-use Rattle.redis_cluster.specs.Ready.{IsTarget, IsReady}
+use Rattle.redis_cluster.specs.Ready.{IsPlanOf, IsTarget, IsReady}
 use Rattle.redis_cluster.proofs.Constructors.{same_some, same_head, same_tail}
 
 -- each part means its slot

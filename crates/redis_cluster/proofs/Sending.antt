@@ -14,7 +14,6 @@ use Rattle.cluster_slots.specs.KeySlot.{key_slot}
 use Rattle.redis_routing.specs.Registry.{Registrations}
 use Rattle.redis_cluster.specs.MultiKey.{KeyTuple, MultiKey, multi_key, part_of, tuples_of_slot}
 use Rattle.redis_cluster.specs.Orders.{times, NamesOnce, in_order, tuples_of_slots}
-use Rattle.redis_cluster.specs.Sent.{IsLeft}
 use Rattle.redis_cluster.specs.Trace.{Ending, answered, refused, redirected, lost}
 use Rattle.redis_cluster.specs.Unsplit.{Act, Step, Keyspace, after, keyspace_after}
 use Rattle.redis_cluster.proofs.Counts.{same_number, times_here, times_there}
@@ -24,7 +23,8 @@ use Rattle.std.proofs.lemmas.List.{map_push}
 use Rattle.std.proofs.Common.{append_assoc, ◌++◌}
 use Rattle.std.proofs.lemmas.Grind.{common_steps}
 use Rattle.redis_cluster.proofs.Once.{times_more, times-take, names_once-apart}
-use Rattle.redis_cluster.specs.Sends.{Target, SlotsTookEffect}
+use Rattle.redis_cluster.specs.Ready.{Target}
+use Rattle.redis_cluster.specs.Sends.{IsLeft, SlotsTookEffect}
 use Rattle.redis_cluster.proofs.Constructors.{same_some}
 use Rattle.redis_cluster.proofs.Told.{same_told}
 

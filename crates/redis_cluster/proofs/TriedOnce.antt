@@ -11,16 +11,14 @@ use Rattle.redis_cluster.specs.MultiKey.{MultiKey, part_by_slot}
 use Rattle.redis_cluster.specs.Orders.{NamesOnce, in_order}
 use Rattle.redis_cluster.specs.Trace.{Entry, Ending, answered, entry}
 use Rattle.redis_cluster.specs.Unsplit.{Step, keyspace_after, reply_to}
-use Rattle.redis_cluster.specs.Attempts.{Try}
+use Rattle.redis_cluster.specs.Retry.{Try, SentInTurn}
 use Rattle.redis_cluster.specs.Driven.{Request, IsEntryOf, AreSent, IsDelivered, IsDriven}
 use Rattle.redis_cluster.specs.State.{State}
 use Rattle.redis_cluster.specs.Ended.{AreEndedEarly}
 use Rattle.redis_cluster.specs.Faults.{fault_of_plan, IsCauseBeforeSending, IsPlanFault, EndsOnce}
 use Rattle.redis_cluster.specs.Plan.{Plan}
-use Rattle.redis_cluster.specs.Ready.{IsTarget, IsPlanFor, IsPlanNode}
+use Rattle.redis_cluster.specs.Ready.{IsTarget, IsPlanFor, IsPlanNode, Target, targets, tries_with}
 use Rattle.redis_cluster.specs.Retried.{AreTried, AreAllTried, EndsTried, IsRetried}
-use Rattle.redis_cluster.specs.Sends.{Target, targets}
-use Rattle.redis_cluster.specs.Tries.{tries_with, SentInTurn}
 use Rattle.redis_cluster.specs.declared.fault.DriveFault.{DriveFault}
 use Rattle.redis_cluster.specs.declared.fault.DriveFault.TheVariants as early
 use Rattle.redis_cluster.specs.declared.fault.PlanFault.{PlanFault}

@@ -5,10 +5,8 @@ use Rattle.std.proofs.lemmas.List.Elements.{All-head, All-tail}
 use Rattle.std.proofs.lemmas.Grind.{common_steps}
 use Rattle.redis_cluster.specs.Orders.{times}
 use Rattle.redis_cluster.specs.Trace.{Entry, Ending, answered}
-use Rattle.redis_cluster.specs.Attempts.{Try, AttemptsOf, IsCause}
-use Rattle.redis_cluster.specs.Retry.{Attempt}
-use Rattle.redis_cluster.specs.Sends.{Target}
-use Rattle.redis_cluster.specs.Tries.{try_with, tries_with, SentInTurn}
+use Rattle.redis_cluster.specs.Retry.{Try, AttemptsOf, IsCause, RetryState, SentInTurn}
+use Rattle.redis_cluster.specs.Ready.{Target, try_with, tries_with}
 use Rattle.redis_cluster.proofs.Constructors.{same_some}
 
 -- what holds of each holds of the one at a place
@@ -24,19 +22,19 @@ none_past (x ∷ xs) zero past = absurd (past (omega arith))
 none_past (x ∷ xs) (suc k) past = none_past xs k (λ l. past (omega arith))
 
 -- what is tried has the target's part
-pub try_part : (target : Target) (retry : Option Attempt) → (try_with target retry).part ≡ target.1
+pub try_part : (target : Target) (retry : Option RetryState) → (try_with target retry).part ≡ target.1
 try_part target None = refl
 try_part target (Some retry) = refl
 
 -- what is tried for a route
-pub try_there : (targets : List Target) (retries : List Attempt) (k : ℕ) (target : Target) → slice_get targets k ≡ Some target → slice_get (tries_with targets retries) k ≡ Some (try_with target (slice_get retries k))
+pub try_there : (targets : List Target) (retries : List RetryState) (k : ℕ) (target : Target) → slice_get targets k ≡ Some target → slice_get (tries_with targets retries) k ≡ Some (try_with target (slice_get retries k))
 try_there [] retries k target at = absurd (cc at)
 try_there (t ∷ targets) [] zero target at = ap (λ (u : Target). Some (try_with u None)) (same_some t target at)
 try_there (t ∷ targets) [] (suc k) target at = try_there targets [] k target at
 try_there (t ∷ targets) (r ∷ retries) zero target at = ap (λ (u : Target). Some (try_with u (Some r))) (same_some t target at)
 try_there (t ∷ targets) (r ∷ retries) (suc k) target at = try_there targets retries k target at
 
-pub tries_many : (targets : List Target) (retries : List Attempt) → length (tries_with targets retries) ≡ length targets
+pub tries_many : (targets : List Target) (retries : List RetryState) → length (tries_with targets retries) ≡ length targets
 tries_many [] retries = refl
 tries_many (t ∷ targets) [] = ap suc (tries_many targets [])
 tries_many (t ∷ targets) (r ∷ retries) = ap suc (tries_many targets retries)
@@ -50,7 +48,7 @@ tried_more tries more try old mid new before last is = subst (λ ts. SentInTurn 
     pushed (t ∷ ts) from e = (e.0, e.1, pushed ts e.0 e.2)
 
 -- the retries of the others are as they were
-pub others_more : (old now new : List Attempt) (order : List ℕ) (i k : ℕ) → i < length order → k ≡ get_or order i 0 → ((j : ℕ) → times j (take i order) ≡ 0 → slice_get now j ≡ slice_get old j)
+pub others_more : (old now new : List RetryState) (order : List ℕ) (i k : ℕ) → i < length order → k ≡ get_or order i 0 → ((j : ℕ) → times j (take i order) ≡ 0 → slice_get now j ≡ slice_get old j)
     → ((j : ℕ) → nat_eq j k ≡ false → slice_get new j ≡ slice_get now j) → (j : ℕ) → times j (take (i + 1) order) ≡ 0 → slice_get new j ≡ slice_get old j
 others_more old now new order i k within is before stay j none = grind (arith, common_steps)
 

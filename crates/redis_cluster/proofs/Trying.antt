@@ -10,10 +10,9 @@ use Rattle.resp_core.specs.ErrorParts.{ErrorParts}
 use Rattle.cluster_slots.specs.Address.{Address}
 use Rattle.redis_cluster.specs.Trace.{Entry, Ending, answered, refused, redirected, lost, entry}
 use Rattle.redis_routing.specs.declared.info.Redirect.{Redirect}
-use Rattle.redis_cluster.specs.Retry.{Attempt, FollowsRedirect, FallsBack}
-use Rattle.redis_cluster.specs.Sent.{IsUnanswered}
-use Rattle.redis_cluster.specs.Attempts.{Try, is_refusal, refusals, last_or, last_ending, next_place, next_address, AreBegun, AttemptsOf}
-use Rattle.redis_cluster.specs.Tries.{try_once}
+use Rattle.redis_cluster.specs.Retry.{RetryState, FollowsRedirect, FallsBack, Try, is_refusal, refusals, last_or, last_ending, next_place, next_address, AreBegun, AttemptsOf}
+use Rattle.redis_cluster.specs.Sends.{IsUnanswered}
+use Rattle.redis_cluster.specs.Ready.{try_once}
 use Rattle.redis_cluster.proofs.Constructors.{same_some}
 
 -- a part that is sent once, whatever comes of it
@@ -43,7 +42,7 @@ tried_so may_refuse old new mark node part None h = tried_not node part old new 
 tried_so may_refuse old new mark node part (Some x) h = tried_alone node part x old new h.1
 
 -- what a retry knows between two attempts
-pub record IsTrying (try : Try) (old now : List Entry) (retry : Attempt) : Type 0 where
+pub record IsTrying (try : Try) (old now : List Entry) (retry : RetryState) : Type 0 where
   pub attempts : List Entry
   pub grew : now ≡ old ++ attempts
   pub begun : AreBegun try attempts
@@ -97,7 +96,7 @@ begun_push try es node x b next few =
       most = omega (arith, length_push es s);
     }
 
-module _ (try : Try) (old mid new : List Entry) (retry : Attempt) (node : Address) (h : IsTrying try old mid retry) (at : retry.target ≡ Some node) where
+module _ (try : Try) (old mid new : List Entry) (retry : RetryState) (node : Address) (h : IsTrying try old mid retry) (at : retry.target ≡ Some node) where
   comes : next_address try.places h.attempts ≡ Some node
   comes = sym h.target ∙ at
 
@@ -144,11 +143,11 @@ module _ (try : Try) (old mid new : List Entry) (retry : Attempt) (node : Addres
   refuses_last error e none = grind (arith, ends, refused_next, drop_none)
 
   -- after a redirect that is followed
-  pub redirects : (r : Redirect) (next : Attempt) → new ≡ mid ++ entry node try.part (redirected r) ∷ [] → FollowsRedirect retry next r → IsTrying try old new next
+  pub redirects : (r : Redirect) (next : RetryState) → new ≡ mid ++ entry node try.part (redirected r) ∷ [] → FollowsRedirect retry next r → IsTrying try old new next
   redirects r next e follows = grind (arith, common_steps, grown (redirected r) e, more (redirected r), last (redirected r), refusals_push, length_push)
 
   -- after a refusal with a target left
-  pub refuses : (error : ErrorParts) (next : Attempt) → new ≡ mid ++ entry node try.part (refused error) ∷ [] → FallsBack retry next → IsTrying try old new next
+  pub refuses : (error : ErrorParts) (next : RetryState) → new ≡ mid ++ entry node try.part (refused error) ∷ [] → FallsBack retry next → IsTrying try old new next
   refuses error next e falls =
       let s : Entry = entry node try.part (refused error) in
       let f : refusals (h.attempts ++ s ∷ []) ≡ refusals h.attempts + 1 = refusals_push h.attempts s in
@@ -165,5 +164,5 @@ module _ (try : Try) (old mid new : List Entry) (retry : Attempt) (node : Addres
       }
 
 -- where memory ran out before the next attempt
-pub stays : (try : Try) (old mid new : List Entry) (retry : Attempt) → IsTrying try old mid retry → new ≡ mid → AttemptsOf try None old new
+pub stays : (try : Try) (old mid new : List Entry) (retry : RetryState) → IsTrying try old mid retry → new ≡ mid → AttemptsOf try None old new
 stays try old mid new retry h e = grind (arith, common_steps)

@@ -11,7 +11,7 @@ use Rattle.redis_cluster.specs.MultiKey.{MultiKey}
 use Rattle.redis_cluster.specs.Orders.{in_order}
 use Rattle.redis_cluster.specs.Trace.{Entry, Ending, answered}
 use Rattle.redis_cluster.specs.Unsplit.{Step}
-use Rattle.redis_cluster.specs.Attempts.{Try, refusals, last_ending, next_place, next_address, AreBegun, AreAllowed, AttemptsOf}
+use Rattle.redis_cluster.specs.Retry.{Try, refusals, last_ending, next_place, next_address, AreBegun, AreAllowed, AttemptsOf}
 use Rattle.redis_cluster.specs.Driven.{Request, IsDrivable, IsEntryOf, IsDelivered, AreAllAnswered, IsUnhindered}
 use Rattle.redis_cluster.specs.State.{State}
 use Rattle.redis_cluster.specs.Retried.{IsTryOf, AreTried, AreAllTried, EndsTried, IsRetryFault}

@@ -1,21 +1,43 @@
--- How the sends of a plan end without a reply of the command.
-use Rattle.std.specs.Prelude.{◌≡◌, ◌<◌, ◌⊎◌, ◌+◌, ℕ, Bool, List, Option, Some, length, take, slice_get}
+-- How the sends of a part end, and how those of a plan end without a reply of the command.
+use Rattle.std.specs.Prelude.{◌≡◌, ◌<◌, ◌⊎◌, ◌+◌, ℕ, Bool, List, [], ◌∷◌, ◌++◌, Option, Some, length, map, take, slice_get}
 use Rattle.resp_core.specs.ErrorParts.{ErrorParts}
+use Rattle.resp_core.specs.Reply.{Reply}
+use Rattle.resp_core.specs.View.{view}
+use Rattle.resp_core.specs.declared.value.Value.{Value}
 use Rattle.redis_routing.specs.Registry.{Registrations}
-use Rattle.redis_cluster.specs.MultiKey.{MultiKey, list}
-use Rattle.redis_cluster.specs.Orders.{in_order}
-use Rattle.redis_cluster.specs.Sent.{ending_of}
-use Rattle.redis_cluster.specs.Trace.{Entry, Ending}
-use Rattle.redis_cluster.specs.Unsplit.{Step, Keyspace, act_of, keyspace_after}
-use Rattle.redis_cluster.specs.declared.nodes.SendError.{SendError}
 use Rattle.redis_routing.specs.Split.{slots_of}
-use Rattle.redis_cluster.specs.Attempts.{Try, AttemptsOf, IsCause}
+use Rattle.redis_cluster.specs.MultiKey.{MultiKey, list, multi_key}
+use Rattle.redis_cluster.specs.Orders.{in_order}
+use Rattle.redis_cluster.specs.Trace.{Entry, Ending, answered}
+use Rattle.redis_cluster.specs.Unsplit.{Step, Keyspace, act_of, keyspace_after, reply_to}
+use Rattle.redis_cluster.specs.declared.nodes.Nodes.{Ghosts}
+use Rattle.redis_cluster.specs.declared.nodes.SendError.{SendError}
 use Rattle.redis_cluster.specs.Faults.{fault_of_send}
 use Rattle.redis_cluster.specs.Plan.{Plan}
-use Rattle.redis_cluster.specs.Sends.{IsPlanOf, SlotsTookEffect}
-use Rattle.redis_cluster.specs.Tries.{SentInTurn}
+use Rattle.redis_cluster.specs.Ready.{IsPlanOf}
+use Rattle.redis_cluster.specs.Retry.{Try, AttemptsOf, SentInTurn, IsCause}
+use Rattle.redis_cluster.specs.Sends.{IsLeft, SlotsTookEffect, ending_of}
 use Rattle.redis_cluster.specs.declared.fault.DriveFault.{DriveFault}
-use Rattle.redis_cluster.specs.declared.fault.DriveFault.TheVariants.{Memory, Reply}
+use Rattle.redis_cluster.specs.declared.fault.DriveFault.TheVariants as drive
+
+module _ {S : Type 0} (N : Ghosts S) (try : Try) (old new : S) where
+  -- A node answered the last attempt, and none before it. If the nodes keep to one meaning, the reply
+  -- and the keyspace are those of the part.
+  pub record IsPartAnswered (value : Value) : Type 0 where
+    pub tried : AttemptsOf try (Some answered) (N.state old).trace (N.state new).trace
+    pub gave : (replies : List Reply) → N.gave old replies → N.gave new (replies ++ view value ∷ [])
+    pub reply : (command : MultiKey) → multi_key (N.registered old) (map Some try.part) ≡ Some command
+        → N.kept new → view value ≡ reply_to N.step command (N.state old).keyspace
+    pub keyspace : (command : MultiKey) → multi_key (N.registered old) (map Some try.part) ≡ Some command
+        → N.kept new → (N.state new).keyspace ≡ keyspace_after N.step command (N.state old).keyspace
+
+  -- No node answered it, and the last attempt was allowed to end so.
+  pub record IsPartUnanswered (error : SendError) : Type 0 where
+    pub tried : AttemptsOf try (ending_of error) (N.state old).trace (N.state new).trace
+    pub cause : IsCause (N.may_refuse old) (length (N.state new).trace) (N.state new).mark (ending_of error)
+    pub gave : (replies : List Reply) → N.gave old replies → N.gave new replies
+    pub left : (command : MultiKey) → multi_key (N.registered old) (map Some try.part) ≡ Some command
+        → N.kept new → IsLeft N.step command (N.state old).keyspace (N.state new).keyspace (ending_of error)
 
 -- The sends stopped after `count` answers. The trace has the attempts of each of these routes, and
 -- those of the next one. The keyspace is that of the slots that were answered; after a lost reply
@@ -47,7 +69,7 @@ module _ {C : Type 0} (kept : Type 0) (registered : Registrations) (step : Step 
 
   -- all were answered, and memory ran out in making one list of the replies
   pub record IsListEnded (fault : DriveFault) (count : ℕ) : Type 0 where
-    pub fault_is : fault ≡ Memory
+    pub fault_is : fault ≡ drive.Memory
     pub count_is : count ≡ length plan.split.routes
     pub trace : SentInTurn (in_order tries order) old new
     pub keyspace : (command : MultiKey) → IsPlanOf registered command plan
@@ -57,7 +79,7 @@ module _ {C : Type 0} (kept : Type 0) (registered : Registrations) (step : Step 
   -- all were answered, and the replies do not fit, which those of nodes that keep the meaning do
   pub record IsReplyEnded (fault : DriveFault) (count : ℕ) : Type 0 where
     pub error : ErrorParts
-    pub fault_is : fault ≡ Reply error
+    pub fault_is : fault ≡ drive.Reply error
     pub count_is : count ≡ length plan.split.routes
     pub trace : SentInTurn (in_order tries order) old new
     pub misfit : kept → ⊥

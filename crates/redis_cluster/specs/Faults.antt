@@ -3,7 +3,7 @@ use Rattle.std.specs.Prelude.{◌≡◌, ◌⊎◌, ℕ, ◌+◌, List, [], ◌�
 use Rattle.resp_core.specs.ErrorParts.{ErrorParts}
 use Rattle.cluster_slots.specs.Address.{Address}
 use Rattle.cluster_slots.specs.SlotRoute.{SlotRoute}
-use Rattle.redis_cluster.specs.Attempts.{IsCause}
+use Rattle.redis_cluster.specs.Retry.{IsCause}
 use Rattle.redis_cluster.specs.MultiKey.{MultiKey, ReplyForm, list}
 use Rattle.redis_cluster.specs.Orders.{NamesOnce, in_order}
 use Rattle.redis_cluster.specs.Trace.{Entry, Ending, refused, redirected, lost}

@@ -44,7 +44,6 @@ pub mod Orders
 pub mod SlotItems
 pub mod Trace
 pub mod State
-pub mod Sent
 pub mod Front
 pub mod SendErrorText
 pub mod Plan
@@ -58,7 +57,4 @@ pub mod Amid
 pub mod Ended
 pub mod FaultText
 pub mod Retry
-pub mod Attempts
-pub mod Tries
-pub mod PartSends
 pub mod Retried

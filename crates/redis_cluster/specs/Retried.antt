@@ -8,7 +8,7 @@ use Rattle.cluster_map.specs.Fallback.{IsFallback}
 use Rattle.redis_cluster.specs.MultiKey.{part_by_slot}
 use Rattle.redis_cluster.specs.Trace.{Entry, Ending, answered}
 use Rattle.redis_cluster.specs.Unsplit.{Step}
-use Rattle.redis_cluster.specs.Attempts.{Try, AttemptsOf}
+use Rattle.redis_cluster.specs.Retry.{Try, AttemptsOf}
 use Rattle.redis_cluster.specs.Driven.{Request, IsDeliveredBy, IsDrivenBy}
 use Rattle.redis_cluster.specs.State.{State}
 use Rattle.redis_cluster.specs.Faults.{IsCutBy, IsFaultBy}

@@ -1,9 +1,9 @@
 ghost use Rattle.std.specs.Prelude.{Some, map, IsSome, IfOk, IfErr};
-ghost use Rattle.redis_cluster.specs.Attempts.{AreAllowed};
+ghost use Rattle.redis_cluster.specs.Retry.{AreAllowed};
 ghost use Rattle.redis_cluster.specs.Frame.{SameNodes};
 ghost use Rattle.redis_cluster.specs.MultiKey.{IsPart};
-ghost use Rattle.redis_cluster.specs.PartSends.{IsPartAnswered, IsPartUnanswered};
-ghost use Rattle.redis_cluster.specs.Tries.{try_by, try_once};
+ghost use Rattle.redis_cluster.specs.Ended.{IsPartAnswered, IsPartUnanswered};
+ghost use Rattle.redis_cluster.specs.Ready.{try_by, try_once};
 
 use crate::nodes::{Nodes, SendError};
 use crate::retry::Retry;

@@ -6,7 +6,7 @@ ghost use Rattle.cluster_slots.specs.SlotRoute.{SlotRoute};
 ghost use Rattle.cluster_map.specs.RouteNode.{IsRouteNode};
 ghost use Rattle.redis_routing.specs.Names.{names_of};
 ghost use Rattle.redis_cluster.specs.Amid.{PartsActBySlot, IsServedAmid};
-ghost use Rattle.redis_cluster.specs.Attempts.{AreAllowed};
+ghost use Rattle.redis_cluster.specs.Retry.{AreAllowed, SentInTurn};
 ghost use Rattle.redis_cluster.specs.Frame.{SameNodes};
 ghost use Rattle.redis_cluster.specs.Front.{IsSameCommand, front};
 ghost use Rattle.redis_cluster.specs.MultiKey.{MultiKey};
@@ -16,10 +16,8 @@ ghost use Rattle.redis_cluster.specs.Driven.{Request, request, AreAllAnswered, I
 ghost use Rattle.redis_cluster.specs.Faults.{IsBefore, IsCauseBeforeSending, IsFault, IsCut};
 ghost use Rattle.redis_cluster.specs.Joined.{ReturnsJoined};
 ghost use Rattle.redis_cluster.specs.Plan.{HaveGiven};
-ghost use Rattle.redis_cluster.specs.Ready.{IsPlanFor, IsPlanNode, IsReady};
+ghost use Rattle.redis_cluster.specs.Ready.{IsPlanFor, IsPlanNode, IsReady, targets, IsPlanOf, tries_with};
 ghost use Rattle.redis_cluster.specs.Ended.{AreEndedEarly};
-ghost use Rattle.redis_cluster.specs.Sends.{targets, IsPlanOf};
-ghost use Rattle.redis_cluster.specs.Tries.{tries_with, SentInTurn};
 
 pub use crate::fault::{DriveError, DriveFault, PlanFault};
 pub use crate::log::Log;

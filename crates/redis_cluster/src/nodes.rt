@@ -9,7 +9,7 @@ ghost use Rattle.redis_cluster.specs.Unsplit.{Step, keyspace_after, reply_to};
 ghost use Rattle.redis_cluster.specs.State.{State};
 ghost use Rattle.redis_cluster.specs.Trace.{Ending, answered, entry};
 ghost use Rattle.redis_cluster.specs.declared.nodes.SendError.{SendError as Unsent};
-ghost use Rattle.redis_cluster.specs.Sent.{IsIdleIfRefused, IsLeft, IsUnanswered, ending_of};
+ghost use Rattle.redis_cluster.specs.Sends.{IsIdleIfRefused, IsLeft, IsUnanswered, ending_of};
 
 use cluster_slots::NodeAddress;
 use redis_routing::{Redirect, Registry};

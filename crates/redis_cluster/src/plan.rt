@@ -20,8 +20,7 @@ ghost use Rattle.redis_cluster.specs.Driven.{request, command_routes_by, IsFirst
 ghost use Rattle.redis_cluster.specs.Faults.{IsPlanFault};
 ghost use Rattle.redis_cluster.specs.Joined.{IsOutcome};
 ghost use Rattle.redis_cluster.specs.Plan.{IsRoutedPlan, IsMadeOfParts, ArePartReplies, ArePartsAnswered, tuples_in_split};
-ghost use Rattle.redis_cluster.specs.Ready.{IsPlanFor};
-ghost use Rattle.redis_cluster.specs.Sends.{IsPlanOf};
+ghost use Rattle.redis_cluster.specs.Ready.{IsPlanFor, IsPlanOf};
 
 use crate::fault::PlanFault;
 use cluster_map::{ReadRoutingStrategy, SlotMap};

@@ -30,9 +30,9 @@ pub struct Retry {
 
 impl Model for Retry {
     ghost use Rattle.std.specs.Prelude.{◌≡◌, None, reverse};
-    ghost use Rattle.redis_cluster.specs.Retry.{Attempt};
+    ghost use Rattle.redis_cluster.specs.Retry.{RetryState};
 
-    ghost Value = { Attempt };
+    ghost Value = { RetryState };
 
     ghost view = { λ r. record {
       target = r.target;

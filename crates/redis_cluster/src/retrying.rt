@@ -8,13 +8,12 @@ ghost use Rattle.redis_cluster.specs.Frame.{SameNodes};
 ghost use Rattle.redis_cluster.specs.Front.{IsSameCommand, front};
 ghost use Rattle.redis_cluster.specs.MultiKey.{MultiKey};
 ghost use Rattle.redis_cluster.specs.Amid.{PartsActBySlot, IsServedAmid};
-ghost use Rattle.redis_cluster.specs.Attempts.{AreAllowed, HaveOneAnswer};
 ghost use Rattle.redis_cluster.specs.Driven.{request, AreAllAnswered, IsDelivered, IsDrivable, IsUnhindered};
 ghost use Rattle.redis_cluster.specs.Faults.{IsBefore};
 ghost use Rattle.redis_cluster.specs.Joined.{ReturnsJoined};
 ghost use Rattle.redis_cluster.specs.Plan.{HaveGiven};
 ghost use Rattle.redis_cluster.specs.Retried.{IsTryOf, AreAllTried, IsRetried, IsRetryFault, IsRetryCut};
-ghost use Rattle.redis_cluster.specs.Retry.{IsRetryOf};
+ghost use Rattle.redis_cluster.specs.Retry.{AreAllowed, HaveOneAnswer, IsRetryOf};
 
 use crate::driver::{drive_tries, plan_in_order};
 use crate::fault::{DriveError, DriveFault};

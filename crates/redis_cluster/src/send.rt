@@ -3,16 +3,13 @@ ghost use Rattle.std.specs.List.{All};
 ghost use Rattle.redis_cluster.specs.Frame.{SameNodes};
 ghost use Rattle.redis_cluster.specs.MultiKey.{MultiKey, IsPart};
 ghost use Rattle.redis_cluster.specs.Orders.{NamesOnce, in_order};
-ghost use Rattle.redis_cluster.specs.Sent.{ending_of};
 ghost use Rattle.redis_cluster.specs.Unsplit.{keyspace_after, results_of};
-ghost use Rattle.redis_cluster.specs.Attempts.{AreAllowed};
-ghost use Rattle.redis_cluster.specs.Ended.{AreStopped};
+ghost use Rattle.redis_cluster.specs.Ended.{AreStopped, IsPartAnswered, IsPartUnanswered};
 ghost use Rattle.redis_cluster.specs.Faults.{fault_of_send};
-ghost use Rattle.redis_cluster.specs.PartSends.{IsPartAnswered, IsPartUnanswered};
 ghost use Rattle.redis_cluster.specs.Plan.{ArePartReplies, AreGiven, HaveGiven};
-ghost use Rattle.redis_cluster.specs.Retry.{Attempt};
-ghost use Rattle.redis_cluster.specs.Sends.{Target, targets, IsPlanOf};
-ghost use Rattle.redis_cluster.specs.Tries.{tries_with, try_with, SentInTurn};
+ghost use Rattle.redis_cluster.specs.Retry.{AreAllowed, RetryState, SentInTurn};
+ghost use Rattle.redis_cluster.specs.Ready.{Target, targets, IsPlanOf, tries_with, try_with};
+ghost use Rattle.redis_cluster.specs.Sends.{ending_of};
 
 use crate::attempts::{send_once, send_with_retries};
 use crate::fault::{DriveError, DriveFault};
@@ -84,7 +81,7 @@ fn send_part<R: Routable, N: Nodes>(
 ) -> Result<Value, SendError>
     requires there { (target : Target) × (slice_get (targets plan.now) number ≡ Some target)
         × IsPart (N.registered nodes.old) (map Some target.1) }
-    requires named { (retry : Attempt) → slice_get retries.old number ≡ Some retry
+    requires named { (retry : RetryState) → slice_get retries.old number ≡ Some retry
         → IsSome retry.target }
     ensures answered { IfOk result (λ value. (target : Target) → slice_get (targets plan.now) number ≡ Some target
         → IsPartAnswered ⟦<N as Nodes>⟧ (try_with target (slice_get retries.old number)) nodes.old nodes.new value) }

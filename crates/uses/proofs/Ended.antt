@@ -14,7 +14,7 @@ use Rattle.redis_cluster.specs.Amid.{IsReplyAmid}
 use Rattle.redis_cluster.specs.MultiKey.{MultiKey}
 use Rattle.redis_cluster.specs.Plan.{IsMadeOfParts, Plan}
 use Rattle.redis_routing.specs.Split.{Split}
-use Rattle.redis_cluster.specs.Sends.{IsPlanOf}
+use Rattle.redis_cluster.specs.Ready.{IsPlanOf}
 use Rattle.uses.specs.Batch.{Answers, IsGathered, IsNotCombined, IsUngathered, IsClientRefusal, IsUntold}
 use Rattle.uses.specs.declared.batcher.BatchError.{BatchError}
 use Rattle.uses.specs.declared.batcher.BatchError.TheVariants.{NotPlanned, NotAnswered, NotCombined, Memory}

@@ -15,7 +15,7 @@ use Rattle.redis_cluster.specs.Faults.{IsPlanFault}
 use Rattle.redis_cluster.specs.Plan.{IsMadeOfParts, Plan}
 use Rattle.redis_cluster.specs.Driven.{command_routes_by}
 use Rattle.redis_cluster.specs.MultiKey.{MultiKey, multi_key, part_by_slot}
-use Rattle.redis_cluster.specs.Sends.{IsPlanOf, Target}
+use Rattle.redis_cluster.specs.Ready.{IsPlanOf, Target}
 use Rattle.cluster_map.specs.RouteNode.{IsNodeOfRoute}
 use Rattle.cluster_map.specs.SlotRoute.{SlotRoute}
 use Rattle.std.specs.List.{AllZip}

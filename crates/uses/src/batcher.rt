@@ -1,7 +1,7 @@
 //! A client that sends the parts of a command side by side.
 ghost use Rattle.std.specs.Prelude.{◌≡◌, ◌++◌, ◌∷◌, [], List, Some, Ok, map, option_map, slice_get, IfOk, OnOk, OnErr, IfErr, ◌⊎◌};
 ghost use Rattle.resp_core.specs.View.{view};
-ghost use Rattle.redis_cluster.specs.Sends.{Target, targets};
+ghost use Rattle.redis_cluster.specs.Ready.{Target, targets};
 ghost use Rattle.uses.specs.Batch.{Answers, AreAdded, AreHanded, AreHandedOrNone, IsBatchedAmid, IsSame, IsClientRefusal, IsGathered, IsUngathered, WhyNoReplies, HasNoBatchPlan};
 
 use cluster_map::{NodeAddress, SlotMap};

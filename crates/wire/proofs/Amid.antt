@@ -16,7 +16,7 @@ use Rattle.redis_routing.specs.Command.{Arguments}
 use Rattle.redis_routing.specs.Registry.{Registrations}
 use Rattle.redis_routing.specs.Routing.{nodes_for}
 use Rattle.redis_cluster.specs.Amid.{HeldBySlot, IsAssembled, IsReplyAmid, IsServedAmid, PartsActBySlot, replies_by}
-use Rattle.redis_cluster.specs.Attempts.{Try, is_answered}
+use Rattle.redis_cluster.specs.Retry.{Try, is_answered}
 use Rattle.redis_cluster.specs.Driven.{Request, IsDelivered}
 use Rattle.redis_cluster.specs.Retried.{AreAllTried}
 use Rattle.redis_cluster.specs.MultiKey.{KeyTuple, MultiKey, multi_key, part_by_slot, part_of, slots_in, tuples_of_slot, command_routes}

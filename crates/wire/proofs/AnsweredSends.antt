@@ -9,7 +9,7 @@ use Rattle.cluster_slots.specs.Address.{Address}
 use Rattle.cluster_slots.specs.SlotRoute.{SlotRoute}
 use Rattle.redis_routing.specs.Command.{Arguments}
 use Rattle.redis_routing.specs.Registry.{Registrations}
-use Rattle.redis_cluster.specs.Attempts.{Try, AreEndedSo, is_answered, last_or}
+use Rattle.redis_cluster.specs.Retry.{Try, AreEndedSo, is_answered, last_or}
 use Rattle.redis_cluster.specs.Driven.{Request, IsDelivered, IsDrivable, IsEntryOf, AreSent}
 use Rattle.redis_cluster.specs.Faults.{Reach, whole, up_to, WentOut, EndsOnce, IsCut}
 use Rattle.redis_cluster.specs.MultiKey.{MultiKey, part_by_slot}

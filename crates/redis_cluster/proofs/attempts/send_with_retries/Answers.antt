@@ -1,9 +1,9 @@
 use Rattle.std.proofs.Common.{◌≡◌, ◌∙◌, Option, Some, ap, sym, subst, map}
 use Rattle.std.specs.Prelude.{IfSome}
 use Rattle.redis_cluster.specs.MultiKey.{MultiKey, multi_key}
-use Rattle.redis_cluster.specs.PartSends.{IsPartUnanswered}
+use Rattle.redis_cluster.specs.Ended.{IsPartUnanswered}
 use Rattle.redis_cluster.specs.declared.nodes.SendError.TheVariants as sent
-use Rattle.redis_cluster.specs.Tries.{try_by}
+use Rattle.redis_cluster.specs.Ready.{try_by}
 use Rattle.redis_routing.specs.declared.info.Redirect.{Redirect}
 use Rattle.redis_cluster.proofs.Allowed.{allowed_sent, allowed_more}
 use Rattle.redis_cluster.proofs.Frame.{frame_more}

@@ -1,8 +1,8 @@
 use Rattle.std.proofs.Common.{◌≡◌, List}
 use Rattle.resp_core.specs.Reply.{Reply}
 use Rattle.redis_cluster.specs.Frame.{SameNodes}
-use Rattle.redis_cluster.specs.Attempts.{AreAllowed}
-use Rattle.redis_cluster.specs.Tries.{try_by}
+use Rattle.redis_cluster.specs.Retry.{AreAllowed}
+use Rattle.redis_cluster.specs.Ready.{try_by}
 use Rattle.redis_cluster.proofs.Trying.{IsTrying}
 use Rattle.redis_cluster.proofs.attempts.send_with_retries.Given as goal
 

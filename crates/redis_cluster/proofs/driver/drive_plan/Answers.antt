@@ -5,12 +5,11 @@ use Rattle.std.proofs.lemmas.List.{append-nil}
 use Rattle.std.proofs.lemmas.List.Elements.{All-nil}
 use Rattle.std.proofs.lemmas.Result.{IfErr-weaker}
 use Rattle.redis_routing.specs.Registry.{Registrations}
-use Rattle.redis_cluster.specs.Sends.{IsPlanOf}
 use Rattle.redis_cluster.specs.Orders.{NamesOnce}
-use Rattle.redis_cluster.specs.Retry.{Attempt}
+use Rattle.redis_cluster.specs.Retry.{RetryState}
 use Rattle.redis_cluster.proofs.Amid.{parts_act_by_slot}
 use Rattle.redis_cluster.proofs.Ended.{ended_late, memory_is_no_reply}
-use Rattle.redis_cluster.specs.Ready.{IsPlanNode}
+use Rattle.redis_cluster.specs.Ready.{IsPlanOf, IsPlanNode}
 use Rattle.redis_cluster.specs.declared.fault.DriveFault.TheVariants.{BadOrder}
 use Rattle.redis_cluster.proofs.Headline.{begins, headline_fault, carried_fault}
 use Rattle.redis_cluster.proofs.TriedOnce.{delivered_once, plan_tried, plan_driven, plan_cut, bad_order, bad_order_is_no_reply}
@@ -27,7 +26,7 @@ traced_so Q (Err e) f a = tt
 pub drive_tries-requires : goal.drive_tries-requires
 drive_tries-requires g c =
     let names : NamesOnce (length c.args.plan.split.routes) c.args.order.now = subst (λ n. NamesOnce n c.args.order.now) c.len.ensures.len (c.in-Ok-true.ensures.0 c.in-Ok-true.field-0-test) in
-    record { command = c.requires.command; untold = c.requires.untold; order = names; named = All-nil (λ (retry : Attempt). IsSome retry.target) }
+    record { command = c.requires.command; untold = c.requires.untold; order = names; named = All-nil (λ (retry : RetryState). IsSome retry.target) }
 
 pub returns-in-Ok-true-clause-delivered : goal.returns-in-Ok-true-clause-delivered
 returns-in-Ok-true-clause-delivered g c =

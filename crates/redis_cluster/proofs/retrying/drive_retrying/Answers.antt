@@ -1,6 +1,6 @@
 use Rattle.std.proofs.Common.{List, [], map, inl, inr, refl, sym, subst, arith}
 use Rattle.std.specs.List.{AllZip, zip}
-use Rattle.redis_cluster.specs.Retry.{Attempt, IsRetryOf}
+use Rattle.redis_cluster.specs.Retry.{RetryState, IsRetryOf, Try}
 use Rattle.std.specs.Prelude.{OnOk}
 use Rattle.std.proofs.Common.{Result, Ok, Err, IfOk}
 use Rattle.std.proofs.lemmas.List.{append-nil}
@@ -9,12 +9,10 @@ use Rattle.resp_core.specs.View.{view}
 use Rattle.cluster_slots.specs.SlotRoute.{SlotRoute}
 use Rattle.cluster_map.specs.RouteNode.{IsRouteNode}
 use Rattle.redis_routing.specs.Names.{names_of}
-use Rattle.redis_cluster.specs.Attempts.{Try}
 use Rattle.redis_cluster.specs.Driven.{Request, request}
 use Rattle.redis_cluster.specs.Retried.{IsTryOf}
 use Rattle.redis_cluster.specs.Faults.{IsCauseBeforeSending}
-use Rattle.redis_cluster.specs.Sends.{targets}
-use Rattle.redis_cluster.specs.Tries.{tries_with}
+use Rattle.redis_cluster.specs.Ready.{targets, tries_with}
 use Rattle.redis_cluster.specs.declared.fault.DriveFault.{DriveFault}
 use Rattle.redis_routing.specs.Command.{Arguments}
 use Rattle.redis_cluster.specs.Amid.{IsServedAmid}
@@ -50,7 +48,7 @@ returns-in-Ok-retries_of-clause-tried g c =
     let asked = request (g.R.Routable.args c.args.command.now) (names_of c.args.read_only.now (g.N.Nodes.registered c.args.nodes.now)) c.args.slot_map.now c.args.order.now in
     let old = nodes.state c.args.nodes.now in
     let new = nodes.state c.drive_tries.new.nodes in
-    let are = each_try _ asked c.args.retries (map (λ t. t.0) plan.split.routes) plan.nodes plan.parts own is.targets_are (subst (λ (o : List Attempt). AllZip (IsRetryOf c.args.slot_map.now c.args.retries) (zip (map (λ t. t.0) c.in-Ok.plan.split.routes) c.in-Ok.plan.nodes) o) (sym c.deref_mut.ensures.value) c.in-Ok-retries_of.ensures.each) in
+    let are = each_try _ asked c.args.retries (map (λ t. t.0) plan.split.routes) plan.nodes plan.parts own is.targets_are (subst (λ (o : List RetryState). AllZip (IsRetryOf c.args.slot_map.now c.args.retries) (zip (map (λ t. t.0) c.in-Ok.plan.split.routes) c.in-Ok.plan.nodes) o) (sym c.deref_mut.ensures.value) c.in-Ok-retries_of.ensures.each) in
     traced_so _ c.drive_tries.result
     (λ value tried. all_tried _ nodes.step asked old new plan command is c.in-Ok.ensures.order _ (tries_with (targets plan) own) are tried)
     c.drive_tries.ensures.trace
@@ -65,7 +63,7 @@ returns-in-Ok-retries_of-clause-driven g c =
     let asked = request (g.R.Routable.args c.args.command.now) (names_of c.args.read_only.now (g.N.Nodes.registered c.args.nodes.now)) c.args.slot_map.now c.args.order.now in
     let old = nodes.state c.args.nodes.now in
     let new = nodes.state c.drive_tries.new.nodes in
-    let are = each_try _ asked c.args.retries (map (λ t. t.0) plan.split.routes) plan.nodes plan.parts own is.targets_are (subst (λ (o : List Attempt). AllZip (IsRetryOf c.args.slot_map.now c.args.retries) (zip (map (λ t. t.0) c.in-Ok.plan.split.routes) c.in-Ok.plan.nodes) o) (sym c.deref_mut.ensures.value) c.in-Ok-retries_of.ensures.each) in
+    let are = each_try _ asked c.args.retries (map (λ t. t.0) plan.split.routes) plan.nodes plan.parts own is.targets_are (subst (λ (o : List RetryState). AllZip (IsRetryOf c.args.slot_map.now c.args.retries) (zip (map (λ t. t.0) c.in-Ok.plan.split.routes) c.in-Ok.plan.nodes) o) (sym c.deref_mut.ensures.value) c.in-Ok-retries_of.ensures.each) in
     all_three _ _ c.drive_tries.result
     (λ value tried keyspace reply now. record {
       delivered = all_tried _ nodes.step asked old new plan command is c.in-Ok.ensures.order _ (tries_with (targets plan) own) are tried;
@@ -84,7 +82,7 @@ returns-in-Ok-retries_of-clause-cut g c =
     let asked = request (g.R.Routable.args c.args.command.now) (names_of c.args.read_only.now (g.N.Nodes.registered c.args.nodes.now)) c.args.slot_map.now c.args.order.now in
     let old = nodes.state c.args.nodes.now in
     let new = nodes.state c.drive_tries.new.nodes in
-    let are = each_try _ asked c.args.retries (map (λ t. t.0) plan.split.routes) plan.nodes plan.parts own is.targets_are (subst (λ (o : List Attempt). AllZip (IsRetryOf c.args.slot_map.now c.args.retries) (zip (map (λ t. t.0) c.in-Ok.plan.split.routes) c.in-Ok.plan.nodes) o) (sym c.deref_mut.ensures.value) c.in-Ok-retries_of.ensures.each) in
+    let are = each_try _ asked c.args.retries (map (λ t. t.0) plan.split.routes) plan.nodes plan.parts own is.targets_are (subst (λ (o : List RetryState). AllZip (IsRetryOf c.args.slot_map.now c.args.retries) (zip (map (λ t. t.0) c.in-Ok.plan.split.routes) c.in-Ok.plan.nodes) o) (sym c.deref_mut.ensures.value) c.in-Ok-retries_of.ensures.each) in
     IfErr-weaker c.drive_tries.result _ _
     (λ e ended. inr (cut_short _ nodes.step asked old new plan command is c.in-Ok.ensures.order _ (tries_with (targets plan) own) are (nodes.kept c.drive_tries.new.nodes) (nodes.may_refuse c.args.nodes.now) e.answered e.fault ended).0)
     c.drive_tries.ensures.stopped
@@ -99,7 +97,7 @@ returns-in-Ok-retries_of-clause-fault g c =
     let asked = request (g.R.Routable.args c.args.command.now) (names_of c.args.read_only.now (g.N.Nodes.registered c.args.nodes.now)) c.args.slot_map.now c.args.order.now in
     let old = nodes.state c.args.nodes.now in
     let new = nodes.state c.drive_tries.new.nodes in
-    let are = each_try _ asked c.args.retries (map (λ t. t.0) plan.split.routes) plan.nodes plan.parts own is.targets_are (subst (λ (o : List Attempt). AllZip (IsRetryOf c.args.slot_map.now c.args.retries) (zip (map (λ t. t.0) c.in-Ok.plan.split.routes) c.in-Ok.plan.nodes) o) (sym c.deref_mut.ensures.value) c.in-Ok-retries_of.ensures.each) in
+    let are = each_try _ asked c.args.retries (map (λ t. t.0) plan.split.routes) plan.nodes plan.parts own is.targets_are (subst (λ (o : List RetryState). AllZip (IsRetryOf c.args.slot_map.now c.args.retries) (zip (map (λ t. t.0) c.in-Ok.plan.split.routes) c.in-Ok.plan.nodes) o) (sym c.deref_mut.ensures.value) c.in-Ok-retries_of.ensures.each) in
     IfErr-weaker c.drive_tries.result _ _
     (λ e ended now.
     let cut = cut_short _ nodes.step asked old new plan command is c.in-Ok.ensures.order _ (tries_with (targets plan) own) are (nodes.kept c.drive_tries.new.nodes) (nodes.may_refuse c.args.nodes.now) e.answered e.fault ended in

@@ -12,7 +12,6 @@ use Rattle.redis_routing.specs.Registry.{Registrations}
 use Rattle.redis_cluster.specs.MultiKey.{MultiKey, multi_key, part_of, tuples_of_slot, form_by_policy}
 use Rattle.redis_cluster.specs.Orders.{times, in_order, NamesOnce}
 use Rattle.redis_cluster.specs.SlotItems.{items_of_slot}
-use Rattle.redis_cluster.specs.Sent.{ending_of}
 use Rattle.redis_cluster.specs.Trace.{answered}
 use Rattle.redis_cluster.specs.Unsplit.{act_of, after, reply_by, results, results_of}
 use Rattle.redis_cluster.proofs.Fold.{joined}
@@ -21,11 +20,10 @@ use Rattle.redis_cluster.proofs.Whole.{keyspace_of_all, keyspace_at_stop, keyspa
 use Rattle.redis_cluster.proofs.Parts.{length-results}
 use Rattle.redis_cluster.specs.Plan.{Plan, tuples_in_split}
 use Rattle.redis_routing.specs.Split.{slots_of, Split}
-use Rattle.redis_cluster.specs.Attempts.{AttemptsOf}
 use Rattle.redis_cluster.specs.Ended.{AreStopped}
-use Rattle.redis_cluster.specs.Retry.{Attempt}
-use Rattle.redis_cluster.specs.Sends.{Target, targets, IsPlanOf}
-use Rattle.redis_cluster.specs.Tries.{tries_with, try_with}
+use Rattle.redis_cluster.specs.Retry.{AttemptsOf, RetryState}
+use Rattle.redis_cluster.specs.Ready.{Target, targets, IsPlanOf, tries_with, try_with}
+use Rattle.redis_cluster.specs.Sends.{ending_of}
 use Rattle.redis_cluster.proofs.Allowed.{allowed_none, allowed_more}
 use Rattle.redis_cluster.proofs.Frame.{frame_more}
 use Rattle.redis_cluster.proofs.Tries.{all_at, try_part, try_there, tries_many, tried_more, others_more, same_cause}
@@ -63,7 +61,7 @@ send_part-requires g c =
         record { command = part_of command t.slot; command_is = ap (λ registered. multi_key registered (map Some t.target.1)) c.loop-number.invariant.frame.registered ∙ t.part; slot = t.slot; of_slot = of_one_slot t.slot command.tuples },
       );
       named = λ retry at.
-          all_at (λ (r : Attempt). IsSome r.target) c.args.retries.now k retry c.requires.named
+          all_at (λ (r : RetryState). IsSome r.target) c.args.retries.now k retry c.requires.named
           (sym (c.loop-number.invariant.others k (not_yet (length plan.split.routes) c.args.order.now c.loop-number.number-index c.requires.order c.loop-number-test.true)) ∙ at);
     }
 
@@ -123,7 +121,7 @@ loop-number-preserved g c =
       untold = subst (λ rs. AreUntold rs order (i + 1) (length slots)) (sym replies_are)
           (untold_less c.loop-number.plan.replies slots order i k inside refl room (length slots) c.in-Ok.reply inv.untold);
       trace = tried_more (in_order tries (take i order)) (in_order tries (take (i + 1) order)) (try_with t.target (slice_get retries k)) (nodes.state c.args.nodes.now).trace (nodes.state c.loop-number.nodes).trace (nodes.state c.send_part.new.nodes).trace inv.trace
-          (subst (λ (o : Option Attempt). AttemptsOf (try_with t.target o) (Some answered) (nodes.state c.loop-number.nodes).trace (nodes.state c.send_part.new.nodes).trace) unsent (c.in-Ok.ensures.answered t.target (at t.target t.target_at)).tried)
+          (subst (λ (o : Option RetryState). AttemptsOf (try_with t.target o) (Some answered) (nodes.state c.loop-number.nodes).trace (nodes.state c.send_part.new.nodes).trace) unsent (c.in-Ok.ensures.answered t.target (at t.target t.target_at)).tried)
           (in_order_more tries order i k (try_with t.target (slice_get retries k)) inside refl (try_there (targets plan) retries k t.target t.target_at));
       allowed = allowed_more (nodes.may_refuse c.args.nodes.now) (nodes.may_refuse c.loop-number.nodes) (nodes.state c.args.nodes.now).trace (nodes.state c.loop-number.nodes).trace (nodes.state c.send_part.new.nodes).trace inv.frame.may_refuse inv.allowed c.send_part.ensures.allowed;
       others = others_more retries c.loop-number.retries c.send_part.new.retries order i k inside refl inv.others c.send_part.ensures.others;
@@ -175,7 +173,7 @@ returns-in-Err-clause-stopped g c =
                 ((c.in-Err.ensures.unanswered t.target there).left (part_of command t.slot) (ap (λ p. multi_key (nodes.registered c.loop-number.nodes) (map Some p)) (try_part t.target (slice_get c.loop-number.retries k)) ∙ ap (λ registered. multi_key registered (map Some t.target.1)) inv.frame.registered ∙ t.part) now);
             try = try;
             next = next;
-            tried = subst (λ (o : Option Attempt). AttemptsOf (try_with t.target o) ending (nodes.state c.loop-number.nodes).trace (nodes.state c.send_part.new.nodes).trace) unsent (c.in-Err.ensures.unanswered t.target there).tried;
+            tried = subst (λ (o : Option RetryState). AttemptsOf (try_with t.target o) ending (nodes.state c.loop-number.nodes).trace (nodes.state c.send_part.new.nodes).trace) unsent (c.in-Err.ensures.unanswered t.target there).tried;
             cause = same_cause (nodes.may_refuse c.args.nodes.now) (nodes.may_refuse c.loop-number.nodes) (length (nodes.state c.send_part.new.nodes).trace) (nodes.state c.send_part.new.nodes).mark ending inv.frame.may_refuse (c.in-Err.ensures.unanswered t.target there).cause;
           } in
           subst (λ n. AreStopped (nodes.kept c.send_part.new.nodes) nodes.step (nodes.may_refuse c.args.nodes.now) command plan tries order n old (nodes.state c.send_part.new.nodes).keyspace (nodes.state c.args.nodes.now).trace (nodes.state c.send_part.new.nodes).trace (nodes.state c.send_part.new.nodes).mark ending) (sym inv.answered) stopped,

@@ -7,9 +7,8 @@ use Rattle.redis_cluster.specs.Frame.{SameNodes}
 use Rattle.redis_cluster.specs.Unsplit.{act_of, after, reply_by, results_of}
 use Rattle.redis_cluster.proofs.Fold.{joined}
 use Rattle.redis_routing.specs.Split.{slots_of}
-use Rattle.redis_cluster.specs.Sends.{targets, IsPlanOf}
-use Rattle.redis_cluster.specs.Attempts.{AreAllowed}
-use Rattle.redis_cluster.specs.Tries.{tries_with, SentInTurn}
+use Rattle.redis_cluster.specs.Ready.{targets, IsPlanOf, tries_with}
+use Rattle.redis_cluster.specs.Retry.{AreAllowed, SentInTurn}
 use Rattle.redis_cluster.proofs.Sending.{AreTold, AreSomeTold, AreGivenSo, AreUntold}
 use Rattle.redis_cluster.proofs.send.send_all.Given as goal
 

@@ -4,11 +4,9 @@ use Rattle.std.proofs.lemmas.Result.{IfOk-weaker, IfErr-weaker}
 use Rattle.std.proofs.lemmas.Option.{slice_get-get_or}
 use Rattle.cluster_slots.specs.Address.{Address}
 use Rattle.redis_cluster.specs.MultiKey.{IsPart}
-use Rattle.redis_cluster.specs.Attempts.{Try}
-use Rattle.redis_cluster.specs.PartSends.{IsPartAnswered, IsPartUnanswered}
-use Rattle.redis_cluster.specs.Retry.{Attempt}
-use Rattle.redis_cluster.specs.Sends.{Target}
-use Rattle.redis_cluster.specs.Tries.{try_by, try_once, try_with}
+use Rattle.redis_cluster.specs.Ended.{IsPartAnswered, IsPartUnanswered}
+use Rattle.redis_cluster.specs.Retry.{Try, RetryState}
+use Rattle.redis_cluster.specs.Ready.{Target, try_by, try_once, try_with}
 use Rattle.redis_cluster.proofs.Sending.{set_there}
 use Rattle.redis_cluster.proofs.Tries.{none_past}
 use Rattle.redis_cluster.proofs.Zips.{zip_at}
@@ -52,9 +50,9 @@ returns-then-number-retries-clause-answered g c =
     IfOk-weaker c.send_with_retries.result _ _ (λ value told target at.
     let both = zip_at c.args.plan.now.nodes c.args.plan.now.parts c.args.number target at in
     let part_is : c.in-Some.part.now ≡ target.1 = one_of (λ p. p.now) c.part.result c.in-Some.part (slice_get c.args.plan.now.parts c.args.number) target.1 c.part.ensures c.in-Some.is both.1 in
-    let own : Attempt = get_or c.args.retries.now c.args.number c.index-retries-number.result in
+    let own : RetryState = get_or c.args.retries.now c.args.number c.index-retries-number.result in
     let own_is : slice_get c.args.retries.now c.args.number ≡ Some own = slice_get-get_or c.args.retries.now c.args.number c.index-retries-number.result c.if-number-retries.true in
-    subst (λ (t : Try). IsPartAnswered g.N.Nodes t c.args.nodes.now c.send_with_retries.new.nodes value) (ap (λ (a : List (List ℕ)). try_by a own) part_is ∙ ap (λ (o : Option Attempt). try_with target o) (sym own_is)) told)
+    subst (λ (t : Try). IsPartAnswered g.N.Nodes t c.args.nodes.now c.send_with_retries.new.nodes value) (ap (λ (a : List (List ℕ)). try_by a own) part_is ∙ ap (λ (o : Option RetryState). try_with target o) (sym own_is)) told)
     c.send_with_retries.ensures.answered
 
 pub returns-then-number-retries-clause-unanswered : goal.returns-then-number-retries-clause-unanswered
@@ -62,9 +60,9 @@ returns-then-number-retries-clause-unanswered g c =
     IfErr-weaker c.send_with_retries.result _ _ (λ error told target at.
     let both = zip_at c.args.plan.now.nodes c.args.plan.now.parts c.args.number target at in
     let part_is : c.in-Some.part.now ≡ target.1 = one_of (λ p. p.now) c.part.result c.in-Some.part (slice_get c.args.plan.now.parts c.args.number) target.1 c.part.ensures c.in-Some.is both.1 in
-    let own : Attempt = get_or c.args.retries.now c.args.number c.index-retries-number.result in
+    let own : RetryState = get_or c.args.retries.now c.args.number c.index-retries-number.result in
     let own_is : slice_get c.args.retries.now c.args.number ≡ Some own = slice_get-get_or c.args.retries.now c.args.number c.index-retries-number.result c.if-number-retries.true in
-    subst (λ (t : Try). IsPartUnanswered g.N.Nodes t c.args.nodes.now c.send_with_retries.new.nodes error) (ap (λ (a : List (List ℕ)). try_by a own) part_is ∙ ap (λ (o : Option Attempt). try_with target o) (sym own_is)) told)
+    subst (λ (t : Try). IsPartUnanswered g.N.Nodes t c.args.nodes.now c.send_with_retries.new.nodes error) (ap (λ (a : List (List ℕ)). try_by a own) part_is ∙ ap (λ (o : Option RetryState). try_with target o) (sym own_is)) told)
     c.send_with_retries.ensures.unanswered
 
 pub returns-clause-answered : goal.returns-clause-answered
@@ -74,7 +72,7 @@ returns-clause-answered g c =
     let part_is : c.in-Some.part.now ≡ target.1 = one_of (λ p. p.now) c.part.result c.in-Some.part (slice_get c.args.plan.now.parts c.args.number) target.1 c.part.ensures c.in-Some.is both.1 in
     let node_is : c.in-Some-node.node.now ≡ target.0 = one_of (λ n. n.now) c.node.result c.in-Some-node.node (slice_get c.args.plan.now.nodes c.args.number) target.0 c.node.ensures c.in-Some-node.is both.0 in
     let none : slice_get c.args.retries.now c.args.number ≡ None = none_past c.args.retries.now c.args.number (λ l. absurd (omega (arith, c.if-number-retries.false, l))) in
-    subst (λ (t : Try). IsPartAnswered g.N.Nodes t c.args.nodes.now c.send_once.new.nodes value) (ap (λ (a : List (List ℕ)). try_once c.in-Some-node.node.now a) part_is ∙ ap (λ (n : Address). try_once n target.1) node_is ∙ ap (λ (o : Option Attempt). try_with target o) (sym none)) told)
+    subst (λ (t : Try). IsPartAnswered g.N.Nodes t c.args.nodes.now c.send_once.new.nodes value) (ap (λ (a : List (List ℕ)). try_once c.in-Some-node.node.now a) part_is ∙ ap (λ (n : Address). try_once n target.1) node_is ∙ ap (λ (o : Option RetryState). try_with target o) (sym none)) told)
     c.send_once.ensures.answered
 
 pub returns-clause-unanswered : goal.returns-clause-unanswered
@@ -84,7 +82,7 @@ returns-clause-unanswered g c =
     let part_is : c.in-Some.part.now ≡ target.1 = one_of (λ p. p.now) c.part.result c.in-Some.part (slice_get c.args.plan.now.parts c.args.number) target.1 c.part.ensures c.in-Some.is both.1 in
     let node_is : c.in-Some-node.node.now ≡ target.0 = one_of (λ n. n.now) c.node.result c.in-Some-node.node (slice_get c.args.plan.now.nodes c.args.number) target.0 c.node.ensures c.in-Some-node.is both.0 in
     let none : slice_get c.args.retries.now c.args.number ≡ None = none_past c.args.retries.now c.args.number (λ l. absurd (omega (arith, c.if-number-retries.false, l))) in
-    subst (λ (t : Try). IsPartUnanswered g.N.Nodes t c.args.nodes.now c.send_once.new.nodes error) (ap (λ (a : List (List ℕ)). try_once c.in-Some-node.node.now a) part_is ∙ ap (λ (n : Address). try_once n target.1) node_is ∙ ap (λ (o : Option Attempt). try_with target o) (sym none)) told)
+    subst (λ (t : Try). IsPartUnanswered g.N.Nodes t c.args.nodes.now c.send_once.new.nodes error) (ap (λ (a : List (List ℕ)). try_once c.in-Some-node.node.now a) part_is ∙ ap (λ (n : Address). try_once n target.1) node_is ∙ ap (λ (o : Option RetryState). try_with target o) (sym none)) told)
     c.send_once.ensures.unanswered
 
 pub returns-then-number-retries-clause-others : goal.returns-then-number-retries-clause-others

@@ -10,7 +10,7 @@ use Rattle.redis_cluster.specs.Registry.{Registrations}
 use Rattle.redis_cluster.specs.Driven.{command_routes_by}
 use Rattle.redis_cluster.specs.MultiKey.{multi_key, part_by_slot}
 use Rattle.redis_cluster.specs.Plan.{Plan}
-use Rattle.redis_cluster.specs.Sends.{targets}
+use Rattle.redis_cluster.specs.Ready.{targets}
 use Rattle.uses.specs.Batch.{AreAdded, AreHanded, AreHandedOrNone, Answers, Handed, IsUngathered}
 use Rattle.uses.specs.declared.batcher.BatchError.{BatchError}
 use Rattle.uses.specs.declared.batcher.BatchError.TheVariants.{NotPlanned, NotAnswered, NotCombined, Memory}

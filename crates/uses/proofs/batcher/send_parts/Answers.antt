@@ -2,7 +2,7 @@ use Rattle.std.proofs.Common.{◌≡◌, ◌≤◌, ◌++◌, ◌∷◌, [], ℕ
 use Rattle.std.specs.Prelude.{None, Some, option_map, slice_get}
 use Rattle.std.proofs.lemmas.List.{map_push}
 use Rattle.redis_cluster.specs.Plan.{Plan}
-use Rattle.redis_cluster.specs.Sends.{Target, targets}
+use Rattle.redis_cluster.specs.Ready.{Target, targets}
 use Rattle.uses.proofs.Handing.{take_past, zip_within}
 use Rattle.uses.proofs.batcher.send_parts.Goals as goal
 use Rattle.uses.proofs.batcher.send_parts.Goals.{in-Some+in_ok-push, in_default}

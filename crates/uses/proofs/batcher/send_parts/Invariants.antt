@@ -1,5 +1,5 @@
 use Rattle.std.proofs.Common.{◌≡◌, map, take}
-use Rattle.redis_cluster.specs.Sends.{targets}
+use Rattle.redis_cluster.specs.Ready.{targets}
 use Rattle.uses.proofs.batcher.send_parts.Given as goal
 
 -- the parts of the first routes are listed, each with its node

@@ -20,8 +20,7 @@ use Rattle.std.proofs.lemmas.Slice.Zip.{AllZip-long}
 use Rattle.redis_cluster.proofs.Covered.{IsNode, covered_by_nodes, firsts-route_lists}
 use Rattle.redis_cluster.specs.Plan.{Plan, marked_replies}
 use Rattle.redis_cluster.specs.MultiKey.{MultiKey}
-use Rattle.redis_cluster.specs.Ready.{IsPlanNode}
-use Rattle.redis_cluster.specs.Sends.{IsPlanOf}
+use Rattle.redis_cluster.specs.Ready.{IsPlanNode, IsPlanOf}
 use Rattle.redis_cluster.proofs.Planned.{joining_routes, made_parts, ready}
 use Rattle.redis_cluster.proofs.Wider.{own_nodes}
 use Rattle.redis_cluster.proofs.Telling.{length-told, none_told}
