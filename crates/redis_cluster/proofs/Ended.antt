@@ -1,8 +1,8 @@
 -- What stands when the parts were sent, or the sends stopped.
 use Rattle.std.proofs.Common.{◌≡◌, ◌<◌, ℕ, zero, suc, ◌+◌, List, [], ◌∷◌, ◌++◌, Option, Some, None, All, inl, inr, refl, sym, ap, ◌∙◌, arith, subst, map, take, length, get_or}
 use Rattle.std.proofs.lemmas.Grind.{common_steps}
-use Rattle.std.specs.Prelude.{slice_get, Bool}
-use Rattle.std.proofs.Common.{⊎_elim}
+use Rattle.std.specs.Prelude.{slice_get, Bool, OnOk}
+use Rattle.std.proofs.Common.{⊎_elim, Result, Ok, Err, IfOk}
 use Rattle.std.specs.List.{AllZip}
 use Rattle.std.specs.Option.{option_to_list}
 use Rattle.std.proofs.lemmas.List.{length-map}
@@ -33,6 +33,15 @@ use Rattle.redis_cluster.specs.declared.fault.DriveFault.{DriveFault}
 use Rattle.redis_cluster.specs.declared.fault.DriveFault.TheVariants as early
 use Rattle.redis_cluster.specs.Ready.{IsReady}
 use Rattle.redis_cluster.proofs.Constructors.{same_some}
+
+-- what holds of a call without its value holds of the value, too
+pub traced_so : {T E : Type 0} {A : Type 0} (Q : T → Type 0) (r : Result T E) → ((x : T) → A → Q x) → OnOk r A → IfOk r Q
+traced_so Q (Ok x) f a = f x a
+traced_so Q (Err e) f a = tt
+
+pub all_three : {T E : Type 0} {A B : Type 0} (P Q : T → Type 0) (r : Result T E) → ((x : T) → A → B → P x → Q x) → OnOk r A → OnOk r B → IfOk r P → IfOk r Q
+all_three P Q (Ok x) f a b p = f x a b p
+all_three P Q (Err e) f a b p = tt
 
 module _ {A B : Type 0} (R : A → B → Type 0) where
   both_append : (xs us : List A) (ys vs : List B) → AllZip R xs ys → AllZip R us vs → AllZip R (xs ++ us) (ys ++ vs)
@@ -106,7 +115,7 @@ module _ {C : Type 0} (IsNode : SlotRoute → Address → Type 0) (step : Step C
     of_routes : NamesOnce (length routes) r.order
     of_routes = subst (λ n. NamesOnce n r.order) (sym routes_many) order
 
-    drivable : IsDrivable r routes command
+    pub drivable : IsDrivable r routes command
     drivable = record { is_covered = is.is_covered; order = of_routes }
 
     slots_first : (count : ℕ) → map (λ (route : SlotRoute). route.slot) (take count (in_order routes r.order)) ≡ in_order slots (take count r.order)
@@ -120,7 +129,7 @@ module _ {C : Type 0} (IsNode : SlotRoute → Address → Type 0) (step : Step C
       tried_first count trace tried = grind (arith, common_steps, take_in_order routes count r.order of_routes.below, tried_all IsTry (in_order routes (take count r.order)) (in_order tries (take count r.order)) old.trace trace (both_in_order IsTry routes tries (take count r.order) are) tried, both_in_order IsTry routes tries (take count r.order) are)
 
       -- all were tried
-      tried_whole : SentInTurn (in_order tries r.order) old.trace new.trace → AreTried IsTry (in_order routes r.order) old.trace new.trace
+      pub tried_whole : SentInTurn (in_order tries r.order) old.trace new.trace → AreTried IsTry (in_order routes r.order) old.trace new.trace
       tried_whole tried = tried_all IsTry (in_order routes r.order) (in_order tries r.order) old.trace new.trace (both_in_order IsTry routes tries r.order are) tried
 
       abbrev pub all_tried : SentInTurn (in_order tries r.order) old.trace new.trace → IsDeliveredBy (AreTried IsTry) r old.trace new.trace

@@ -1,5 +1,5 @@
 -- What stands where each part was sent once.
-use Rattle.std.proofs.Common.{◌≡◌, ℕ, List, [], ◌∷◌, ◌++◌, Option, Some, None, refl, sym, ap, ◌∙◌, subst, map, length, append_assoc, arith}
+use Rattle.std.proofs.Common.{◌≡◌, ℕ, List, [], ◌∷◌, ◌++◌, Option, Some, None, refl, sym, ap, ◌∙◌, subst, map, length, append_assoc}
 use Rattle.std.specs.List.{AllZip}
 use Rattle.std.proofs.lemmas.List.{append-nil, length-map}
 use Rattle.resp_core.specs.ErrorParts.{ErrorParts}
@@ -15,13 +15,12 @@ use Rattle.redis_cluster.specs.Retry.{Try, SentInTurn}
 use Rattle.redis_cluster.specs.Driven.{Request, IsEntryOf, AreSent, IsDelivered, IsDriven}
 use Rattle.redis_cluster.specs.State.{State}
 use Rattle.redis_cluster.specs.Ended.{AreEndedEarly}
-use Rattle.redis_cluster.specs.Faults.{fault_of_plan, IsCauseBeforeSending, IsPlanFault, EndsOnce}
+use Rattle.redis_cluster.specs.Faults.{IsCauseBeforeSending, EndsOnce}
 use Rattle.redis_cluster.specs.Plan.{Plan}
-use Rattle.redis_cluster.specs.Ready.{IsTarget, IsPlanFor, IsPlanNode, Target, targets, tries_with}
+use Rattle.redis_cluster.specs.Ready.{IsTarget, IsReady, IsPlanFor, Target, targets, tries_with}
 use Rattle.redis_cluster.specs.Retried.{AreTried, AreAllTried, EndsTried, IsRetried}
 use Rattle.redis_cluster.specs.declared.fault.DriveFault.{DriveFault}
 use Rattle.redis_cluster.specs.declared.fault.DriveFault.TheVariants as early
-use Rattle.redis_cluster.specs.declared.fault.PlanFault.{PlanFault}
 use Rattle.redis_cluster.proofs.Ended.{all_tried, cut_short, AreEnded}
 use Rattle.redis_cluster.proofs.Laws.{tried_once, tried_none}
 use Rattle.redis_cluster.proofs.Wider.{cut_by}
@@ -65,21 +64,14 @@ delivered_once IsNode r old new d = record { routes = d.routes; command = d.comm
 driven_once : {C : Type 0} (IsNode : SlotRoute → Address → Type 0) (step : Step C) (r : Request) (old new : State C) (value : Reply) → IsRetried (IsOnce IsNode) step r old new value → IsDriven IsNode step r old new value
 driven_once IsNode step r old new value d = record { delivered = delivered_once IsNode r old.trace new.trace d.delivered; keyspace = d.keyspace; reply = d.reply }
 
--- a command that has no plan has a fault that comes before the first send
-pub early_plan : (r : Request) (fault : PlanFault) → IsPlanFault r.map r.names r.arguments fault → IsCauseBeforeSending r (fault_of_plan fault)
-early_plan r fault h1 = grind (arith)
-
-module _ {C : Type 0} (step : Step C) (r : Request) (order : List ℕ) (registered : Registrations) (old new : State C) (plan : Plan) (command : MultiKey) (is : IsPlanFor r plan command) (in_this : r.order ≡ order) (of_these : r.names.registered ≡ registered) (names : NamesOnce (length plan.split.routes) order) where
-  abbrev IsNode : SlotRoute → Address → Type 0
-  IsNode = IsPlanNode plan
-
-  abbrev tries : List Try
+module _ {C : Type 0} (IsNode : SlotRoute → Address → Type 0) (step : Step C) (r : Request) (order : List ℕ) (registered : Registrations) (old new : State C) (plan : Plan) (command : MultiKey) (is : IsReady IsNode r plan command) (in_this : r.order ≡ order) (of_these : r.names.registered ≡ registered) (names : NamesOnce (length plan.split.routes) order) where
+  abbrev pub tries : List Try
   tries = tries_with (targets plan) []
 
-  names_asked : NamesOnce (length plan.split.routes) r.order
+  pub names_asked : NamesOnce (length plan.split.routes) r.order
   names_asked = subst (λ o. NamesOnce (length plan.split.routes) o) (sym in_this) names
 
-  each_try : AllZip (IsOnce IsNode r) (map (λ t. t.0) plan.split.routes) tries
+  pub each_try : AllZip (IsOnce IsNode r) (map (λ t. t.0) plan.split.routes) tries
   each_try = each_once IsNode r (map (λ t. t.0) plan.split.routes) (targets plan) is.targets_are
 
   -- what was sent of a plan, each part once

@@ -1,5 +1,5 @@
 -- What holds at nodes of one kind holds at those of a wider kind.
-use Rattle.std.proofs.Common.{◌≡◌, ℕ, zero, suc, List, [], ◌∷◌, Option, None, Some, inl, inr, refl, sym, arith, length, take}
+use Rattle.std.proofs.Common.{◌≡◌, ℕ, zero, suc, List, [], ◌∷◌, Option, Some, refl, sym, arith, length, take}
 use Rattle.std.specs.Prelude.{slice_get}
 use Rattle.std.specs.List.{AllZip}
 use Rattle.resp_core.specs.Reply.{Reply}
@@ -10,7 +10,7 @@ use Rattle.redis_cluster.specs.Trace.{Entry, Ending, answered}
 use Rattle.redis_cluster.specs.Unsplit.{Step}
 use Rattle.redis_cluster.specs.Driven.{Request, IsEntryOf, AreSent, IsDelivered, IsDriven}
 use Rattle.redis_cluster.specs.State.{State}
-use Rattle.redis_cluster.specs.Faults.{EndsOnce, IsFault, IsCut, Reach, WentOut, WereCutShort, whole, up_to}
+use Rattle.redis_cluster.specs.Faults.{Reach, WentOut, WereCutShort, whole, up_to}
 use Rattle.redis_cluster.specs.Plan.{Plan}
 use Rattle.redis_cluster.specs.Ready.{IsPlanNode}
 use Rattle.redis_cluster.specs.declared.fault.DriveFault.{DriveFault}
@@ -63,7 +63,7 @@ module _ (P Q : SlotRoute → Address → Type 0) (wider : (route : SlotRoute) (
   entries_at asked ending (r ∷ routes) [] h = absurd h
   entries_at asked ending (r ∷ routes) (e ∷ es) (first, rest) = ((wider r e.node first.0, first.1, first.2), entries_at asked ending routes es rest)
 
-  sent_at : (asked : Request) (routes : List SlotRoute) (old new : List Entry) → AreSent P asked routes old new → AreSent Q asked routes old new
+  pub sent_at : (asked : Request) (routes : List SlotRoute) (old new : List Entry) → AreSent P asked routes old new → AreSent Q asked routes old new
   sent_at asked routes old new s = record { entries = s.entries; grew = s.grew; each = entries_at asked answered routes s.entries s.each }
 
   abbrev pub delivered_at : (r : Request) (old new : List Entry) → IsDelivered P r old new → IsDelivered Q r old new
@@ -72,16 +72,3 @@ module _ (P Q : SlotRoute → Address → Type 0) (wider : (route : SlotRoute) (
   module _ {C : Type 0} (step : Step C) (r : Request) (old new : State C) where
     pub driven_at : (value : Reply) → IsDriven P step r old new value → IsDriven Q step r old new value
     driven_at value d = record { delivered = delivered_at r old.trace new.trace d.delivered; keyspace = d.keyspace; reply = d.reply }
-
-  ends_at : (r : Request) (route : SlotRoute) (ending : Option Ending) (old new : List Entry) → EndsOnce P r route ending old new → EndsOnce Q r route ending old new
-  ends_at r route None old new same = same
-  ends_at r route (Some ending) old new (e, (is_node, of_part, ended), grew) = (e, (wider route e.node is_node, of_part, ended), grew)
-
-  module _ {C : Type 0} (r : Request) (old new : State C) (may_refuse : ℕ → Ending → Type 0) (fault : DriveFault) (count : ℕ) where
-    pub cut_at : IsCut P r old new may_refuse fault count → IsCut Q r old new may_refuse fault count
-    cut_at (inl early) = inl early
-    cut_at (inr cut) = inr (cut_by (AreSent P r) (AreSent Q r) (EndsOnce P r) (EndsOnce Q r) (sent_at r) (ends_at r) r old new may_refuse fault count cut)
-
-    pub fault_at : (step : Step C) → IsFault P step r old new may_refuse fault count → IsFault Q step r old new may_refuse fault count
-    fault_at step (inl early) = inl early
-    fault_at step (inr (cut, effect, fits)) = inr (cut_by (AreSent P r) (AreSent Q r) (EndsOnce P r) (EndsOnce Q r) (sent_at r) (ends_at r) r old new may_refuse fault count cut, effect, fits)

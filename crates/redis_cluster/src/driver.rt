@@ -138,16 +138,11 @@ pub fn drive<R: Routable, N: Nodes>(
     // now did so before.
     ensures frame { SameNodes ⟦<N as Nodes>⟧ nodes.old nodes.new }
 {
-    let names = Names {
-        read_only,
-        registry: nodes.registry(),
-    };
-    match SplitPlan::new(alloc, command, names, slot_map, strategy, pick) {
-        Ok(plan) => drive_plan(alloc, plan, order, nodes),
-        Err(fault) => Err(DriveError {
-            fault: DriveFault::from(fault),
-            answered: 0,
-        }),
+    match plan_in_order(
+        alloc, command, read_only, slot_map, strategy, pick, order, nodes,
+    ) {
+        Ok(plan) => drive_tries(alloc, plan, &mut [], order, nodes),
+        Err(fault) => Err(DriveError { fault, answered: 0 }),
     }
 }
 
@@ -191,8 +186,8 @@ pub(super) fn plan_in_order<'a, R: Routable, N: Nodes>(
 }
 
 /// Sends the parts of a plan in an order, each once, and returns what `drive` returns for the
-/// command of the plan. `drive` makes a plan and calls this. If your order depends on the number of
-/// routes, make the plan first, by the names that the nodes have registered:
+/// command of the plan. If your order depends on the number of routes, make the plan first, by the
+/// names that the nodes have registered:
 ///
 /// ```
 /// let plan = SplitPlan::new(alloc, command, names, slot_map, None, 0)?;

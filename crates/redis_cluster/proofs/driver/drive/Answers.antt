@@ -1,149 +1,150 @@
-use Rattle.std.proofs.Common.{[], inl, refl, sym, subst, arith}
-use Rattle.std.proofs.lemmas.Grind.{common_steps}
+use Rattle.std.proofs.Common.{[], inl, inr, refl, sym, subst}
+use Rattle.std.specs.Prelude.{IsSome}
 use Rattle.std.proofs.lemmas.List.{append-nil}
+use Rattle.std.proofs.lemmas.List.Elements.{All-nil}
 use Rattle.std.proofs.lemmas.Result.{IfErr-weaker, IfOk-weaker}
-use Rattle.cluster_slots.specs.Address.{Address}
-use Rattle.cluster_slots.specs.SlotRoute.{SlotRoute}
 use Rattle.resp_core.specs.View.{view}
-use Rattle.redis_routing.specs.Names.{names_of}
-use Rattle.redis_routing.specs.Registry.{Registrations}
-use Rattle.redis_cluster.specs.MultiKey.{MultiKey}
-use Rattle.redis_cluster.specs.Driven.{Request, request}
-use Rattle.redis_cluster.specs.Joined.{ReturnsJoined}
-use Rattle.redis_cluster.specs.Faults.{fault_of_plan, IsCauseBeforeSending}
-use Rattle.redis_cluster.specs.declared.fault.DriveFault.{DriveFault}
 use Rattle.redis_routing.specs.Command.{Arguments}
+use Rattle.redis_routing.specs.Names.{names_of}
 use Rattle.redis_cluster.specs.Amid.{IsServedAmid}
+use Rattle.redis_cluster.specs.Driven.{request}
+use Rattle.redis_cluster.specs.Faults.{IsCauseBeforeSending}
+use Rattle.redis_cluster.specs.Joined.{ReturnsJoined}
+use Rattle.redis_cluster.specs.Retry.{RetryState}
+use Rattle.redis_cluster.specs.declared.fault.DriveFault.{DriveFault}
 use Rattle.redis_cluster.proofs.Amid.{parts_act_by_slot}
+use Rattle.redis_cluster.proofs.Ended.{all_three, ended_late, traced_so}
 use Rattle.redis_cluster.proofs.Gaps.{same_command}
-use Rattle.redis_cluster.proofs.TriedOnce.{early_plan}
-use Rattle.redis_cluster.specs.Ready.{IsPlanFor, IsPlanNode}
-use Rattle.redis_cluster.proofs.Wider.{plan_node, delivered_at, driven_at, cut_at, fault_at}
-use Rattle.redis_cluster.proofs.Headline.{headline_fault, carried_fault}
+use Rattle.redis_cluster.proofs.Headline.{begins, headline_fault, carried_fault}
+use Rattle.redis_cluster.proofs.TriedOnce.{delivered_once, plan_tried, plan_driven, plan_cut}
 use Rattle.redis_cluster.proofs.driver.drive.Goals as goal
+
+pub drive_tries-requires : goal.drive_tries-requires
+drive_tries-requires g c = record {
+  command = (c.in-Ok.ensures.ready.0, c.in-Ok.ensures.ready.1.plan_is);
+  untold = c.in-Ok.ensures.untold;
+  order = c.in-Ok.ensures.order;
+  named = All-nil (λ (retry : RetryState). IsSome retry.target);
+}
 
 pub returns-in-Ok-clause-delivered : goal.returns-in-Ok-clause-delivered
 returns-in-Ok-clause-delivered g c =
-    let asked_by : Registrations → Request = λ registered. request (g.R.Routable.args c.args.command.now) (names_of c.args.read_only.now registered) c.args.slot_map.now c.args.order.now in
-    let ready = subst (λ registered. (command : MultiKey) × IsPlanFor (asked_by registered) c.in-Ok.plan command) c.registry.ensures (c.in-Ok.ensures.ready c.args.order.now) in
     let asked = request (g.R.Routable.args c.args.command.now) (names_of c.args.read_only.now (g.N.Nodes.registered c.args.nodes.now)) c.args.slot_map.now c.args.order.now in
-    IfOk-weaker c.drive_plan.result _ _
-    (λ value said. delivered_at (IsPlanNode c.in-Ok.plan) _ (plan_node _ c.in-Ok.plan c.in-Ok.ensures.nodes) asked (g.N.Nodes.state c.args.nodes.now).trace (g.N.Nodes.state c.drive_plan.new.nodes).trace (said asked ready.0 ready.1 refl refl))
-    c.drive_plan.ensures.delivered
+    let nodes = g.N.Nodes in
+    let old = nodes.state c.args.nodes.now in
+    let new = nodes.state c.drive_tries.new.nodes in
+    let plan = c.in-Ok.plan in
+    let made = c.in-Ok.ensures in
+    traced_so _ c.drive_tries.result
+    (λ value tried. delivered_once _ asked old.trace new.trace (plan_tried _ nodes.step asked c.args.order.now (nodes.registered c.args.nodes.now) old new plan made.ready.0 made.ready.1 refl refl made.order tried))
+    c.drive_tries.ensures.trace
 
 pub returns-in-Ok-clause-driven : goal.returns-in-Ok-clause-driven
 returns-in-Ok-clause-driven g c =
-    let asked_by : Registrations → Request = λ registered. request (g.R.Routable.args c.args.command.now) (names_of c.args.read_only.now registered) c.args.slot_map.now c.args.order.now in
-    let ready = subst (λ registered. (command : MultiKey) × IsPlanFor (asked_by registered) c.in-Ok.plan command) c.registry.ensures (c.in-Ok.ensures.ready c.args.order.now) in
     let asked = request (g.R.Routable.args c.args.command.now) (names_of c.args.read_only.now (g.N.Nodes.registered c.args.nodes.now)) c.args.slot_map.now c.args.order.now in
-    let old = g.N.Nodes.state c.args.nodes.now in
-    let new = g.N.Nodes.state c.drive_plan.new.nodes in
-    IfOk-weaker c.drive_plan.result _ _
-    (λ value said now. driven_at (IsPlanNode c.in-Ok.plan) _ (plan_node _ c.in-Ok.plan c.in-Ok.ensures.nodes) g.N.Nodes.step asked old new _ (said asked ready.0 ready.1 refl refl now))
-    c.drive_plan.ensures.driven
+    let nodes = g.N.Nodes in
+    let old = nodes.state c.args.nodes.now in
+    let new = nodes.state c.drive_tries.new.nodes in
+    let plan = c.in-Ok.plan in
+    let made = c.in-Ok.ensures in
+    all_three _ _ c.drive_tries.result
+    (λ value tried keyspace reply now. plan_driven _ nodes.step asked c.args.order.now (nodes.registered c.args.nodes.now) old new plan made.ready.0 made.ready.1 refl refl made.order _ tried (keyspace made.ready.0 made.ready.1.plan_is now) (reply made.ready.0 made.ready.1.plan_is now))
+    c.drive_tries.ensures.trace c.drive_tries.ensures.keyspace c.drive_tries.ensures.reply
 
 pub returns-in-Ok-clause-cut : goal.returns-in-Ok-clause-cut
 returns-in-Ok-clause-cut g c =
-    let asked_by : Registrations → Request = λ registered. request (g.R.Routable.args c.args.command.now) (names_of c.args.read_only.now registered) c.args.slot_map.now c.args.order.now in
-    let ready = subst (λ registered. (command : MultiKey) × IsPlanFor (asked_by registered) c.in-Ok.plan command) c.registry.ensures (c.in-Ok.ensures.ready c.args.order.now) in
     let asked = request (g.R.Routable.args c.args.command.now) (names_of c.args.read_only.now (g.N.Nodes.registered c.args.nodes.now)) c.args.slot_map.now c.args.order.now in
     let nodes = g.N.Nodes in
-    IfErr-weaker c.drive_plan.result _ _
-    (λ e said. cut_at (IsPlanNode c.in-Ok.plan) _ (plan_node _ c.in-Ok.plan c.in-Ok.ensures.nodes) asked (nodes.state c.args.nodes.now) (nodes.state c.drive_plan.new.nodes) (nodes.may_refuse c.args.nodes.now) e.fault e.answered (said asked ready.0 ready.1 refl refl))
-    c.drive_plan.ensures.cut
+    let old = nodes.state c.args.nodes.now in
+    let new = nodes.state c.drive_tries.new.nodes in
+    let plan = c.in-Ok.plan in
+    let made = c.in-Ok.ensures in
+    IfErr-weaker c.drive_tries.result _ _
+    (λ e ended. inr (plan_cut _ nodes.step asked c.args.order.now (nodes.registered c.args.nodes.now) old new plan made.ready.0 made.ready.1 refl refl made.order (nodes.kept c.drive_tries.new.nodes) (nodes.may_refuse c.args.nodes.now) e.fault e.answered ended).0)
+    c.drive_tries.ensures.stopped
 
 pub returns-in-Ok-clause-fault : goal.returns-in-Ok-clause-fault
 returns-in-Ok-clause-fault g c =
-    let asked_by : Registrations → Request = λ registered. request (g.R.Routable.args c.args.command.now) (names_of c.args.read_only.now registered) c.args.slot_map.now c.args.order.now in
-    let ready = subst (λ registered. (command : MultiKey) × IsPlanFor (asked_by registered) c.in-Ok.plan command) c.registry.ensures (c.in-Ok.ensures.ready c.args.order.now) in
     let asked = request (g.R.Routable.args c.args.command.now) (names_of c.args.read_only.now (g.N.Nodes.registered c.args.nodes.now)) c.args.slot_map.now c.args.order.now in
-    let old = g.N.Nodes.state c.args.nodes.now in
-    let new = g.N.Nodes.state c.drive_plan.new.nodes in
-    IfErr-weaker c.drive_plan.result _ _
-    (λ e said now. fault_at (IsPlanNode c.in-Ok.plan) _ (plan_node _ c.in-Ok.plan c.in-Ok.ensures.nodes) asked old new (g.N.Nodes.may_refuse c.args.nodes.now) e.fault e.answered g.N.Nodes.step (said asked ready.0 ready.1 refl refl now))
-    c.drive_plan.ensures.fault
+    let nodes = g.N.Nodes in
+    let old = nodes.state c.args.nodes.now in
+    let new = nodes.state c.drive_tries.new.nodes in
+    let plan = c.in-Ok.plan in
+    let made = c.in-Ok.ensures in
+    IfErr-weaker c.drive_tries.result _ _
+    (λ e ended now.
+    let cut = plan_cut _ nodes.step asked c.args.order.now (nodes.registered c.args.nodes.now) old new plan made.ready.0 made.ready.1 refl refl made.order (nodes.kept c.drive_tries.new.nodes) (nodes.may_refuse c.args.nodes.now) e.fault e.answered ended in
+    inr (cut.0, (cut.1 now).0, (cut.1 now).1))
+    c.drive_tries.ensures.stopped
+
+pub returns-in-Ok-clause-untouched : goal.returns-in-Ok-clause-untouched
+returns-in-Ok-clause-untouched g c =
+    IfErr-weaker c.drive_tries.result _ _
+    (λ e ended before. absurd (ended_late _ _ _ _ _ _ _ _ _ _ _ _ e.fault e.answered ended before))
+    c.drive_tries.ensures.stopped
 
 pub returns-in-Ok-clause-joined : goal.returns-in-Ok-clause-joined
 returns-in-Ok-clause-joined g c =
     let nodes = g.N.Nodes in
-    subst (λ (args : Arguments). ReturnsJoined (nodes.registered c.args.nodes.now) args c.args.order.now (nodes.gave c.args.nodes.now) (nodes.gave c.drive_plan.new.nodes) c.drive_plan.result) c.in-Ok.ensures.arguments
-    c.drive_plan.ensures.joined
+    subst (λ (args : Arguments). ReturnsJoined (nodes.registered c.args.nodes.now) args c.args.order.now (nodes.gave c.args.nodes.now) (nodes.gave c.drive_tries.new.nodes) c.drive_tries.result) c.in-Ok.ensures.arguments
+    c.drive_tries.ensures.joined
+
+pub returns-in-Ok-clause-amid : goal.returns-in-Ok-clause-amid
+returns-in-Ok-clause-amid g c =
+    let nodes = g.N.Nodes in
+    IfOk-weaker c.drive_tries.result _ _
+    (λ value. subst (λ (args : Arguments). IsServedAmid nodes.Cell (nodes.registered c.args.nodes.now) args c.args.order.now (nodes.gave c.args.nodes.now) (nodes.gave c.drive_tries.new.nodes) (view value)) c.in-Ok.ensures.arguments)
+    c.drive_tries.ensures.amid
 
 pub returns-in-Ok-clause-headline : goal.returns-in-Ok-clause-headline
 returns-in-Ok-clause-headline g c =
     let asked = request (g.R.Routable.args c.args.command.now) (names_of c.args.read_only.now (g.N.Nodes.registered c.args.nodes.now)) c.args.slot_map.now c.args.order.now in
-    let old = g.N.Nodes.state c.args.nodes.now in
-    let new = g.N.Nodes.state c.drive_plan.new.nodes in
-    λ headline. IfErr-weaker c.drive_plan.result _ _
-    (λ e fault now. headline_fault _ g.N.Nodes.step asked old new (g.N.Nodes.may_refuse c.args.nodes.now) headline e.fault e.answered (fault now))
+    let nodes = g.N.Nodes in
+    λ headline. IfErr-weaker c.drive_tries.result _ _
+    (λ e fault now. headline_fault _ nodes.step asked (nodes.state c.args.nodes.now) (nodes.state c.drive_tries.new.nodes) (nodes.may_refuse c.args.nodes.now) headline e.fault e.answered (fault now))
     (returns-in-Ok-clause-fault g c)
 
 pub returns-in-Ok-clause-carried : goal.returns-in-Ok-clause-carried
 returns-in-Ok-clause-carried g c =
     let asked = request (g.R.Routable.args c.args.command.now) (names_of c.args.read_only.now (g.N.Nodes.registered c.args.nodes.now)) c.args.slot_map.now c.args.order.now in
-    let old = g.N.Nodes.state c.args.nodes.now in
-    let new = g.N.Nodes.state c.drive_plan.new.nodes in
-    λ routes command can all. IfErr-weaker c.drive_plan.result _ _
-    (λ e fault now. carried_fault _ g.N.Nodes.step asked old new (g.N.Nodes.may_refuse c.args.nodes.now) routes command can all e.fault e.answered (fault now))
+    let nodes = g.N.Nodes in
+    λ routes command can all. IfErr-weaker c.drive_tries.result _ _
+    (λ e fault now. carried_fault _ nodes.step asked (nodes.state c.args.nodes.now) (nodes.state c.drive_tries.new.nodes) (nodes.may_refuse c.args.nodes.now) routes command can all e.fault e.answered (fault now))
     (returns-in-Ok-clause-fault g c)
 
 pub returns-in-Ok-clause-gaps : goal.returns-in-Ok-clause-gaps
 returns-in-Ok-clause-gaps g c = same_command (g.R.Routable.args c.args.command.now)
 
-pub returns-in-Err-clause-gaps : goal.returns-in-Err-clause-gaps
-returns-in-Err-clause-gaps g c = same_command (g.R.Routable.args c.args.command.now)
+pub returns-in-Ok-clause-parts : goal.returns-in-Ok-clause-parts
+returns-in-Ok-clause-parts g c = parts_act_by_slot g.N.Nodes.Cell (g.N.Nodes.registered c.args.nodes.now) (g.R.Routable.args c.args.command.now)
 
 pub returns-in-Err-clause-fault : goal.returns-in-Err-clause-fault
-returns-in-Err-clause-fault g c =
-    let asked = request (g.R.Routable.args c.args.command.now) (names_of c.args.read_only.now (g.N.Nodes.registered c.args.nodes.now)) c.args.slot_map.now c.args.order.now in
-    let old = g.N.Nodes.state c.args.nodes.now in
-    let is_early : IsCauseBeforeSending asked c.from.result = subst (λ (f : DriveFault). IsCauseBeforeSending asked f) (sym c.from.ensures) (subst (λ registered. IsCauseBeforeSending (request (g.R.Routable.args c.args.command.now) (names_of c.args.read_only.now registered) c.args.slot_map.now c.args.order.now) (fault_of_plan c.in-Err.fault)) c.registry.ensures
-    (early_plan (request (g.R.Routable.args c.args.command.now) (names_of c.args.read_only.now c.registry.result.now) c.args.slot_map.now c.args.order.now) c.in-Err.fault c.in-Err.ensures.fault)) in
-    λ now. inl (is_early, refl, refl)
+returns-in-Err-clause-fault g c = λ now. inl (c.in-Err.ensures.early, refl, refl)
 
 pub returns-in-Err-clause-cut : goal.returns-in-Err-clause-cut
-returns-in-Err-clause-cut g c =
-    let asked = request (g.R.Routable.args c.args.command.now) (names_of c.args.read_only.now (g.N.Nodes.registered c.args.nodes.now)) c.args.slot_map.now c.args.order.now in
-    let is_early : IsCauseBeforeSending asked c.from.result = subst (λ (f : DriveFault). IsCauseBeforeSending asked f) (sym c.from.ensures) (subst (λ registered. IsCauseBeforeSending (request (g.R.Routable.args c.args.command.now) (names_of c.args.read_only.now registered) c.args.slot_map.now c.args.order.now) (fault_of_plan c.in-Err.fault)) c.registry.ensures
-    (early_plan (request (g.R.Routable.args c.args.command.now) (names_of c.args.read_only.now c.registry.result.now) c.args.slot_map.now c.args.order.now) c.in-Err.fault c.in-Err.ensures.fault)) in
-    inl (is_early, refl, refl)
+returns-in-Err-clause-cut g c = inl (c.in-Err.ensures.early, refl, refl)
 
 pub returns-in-Err-clause-headline : goal.returns-in-Err-clause-headline
 returns-in-Err-clause-headline g c =
     let asked = request (g.R.Routable.args c.args.command.now) (names_of c.args.read_only.now (g.N.Nodes.registered c.args.nodes.now)) c.args.slot_map.now c.args.order.now in
-    let old = g.N.Nodes.state c.args.nodes.now in
-    let is_early : IsCauseBeforeSending asked c.from.result = subst (λ (f : DriveFault). IsCauseBeforeSending asked f) (sym c.from.ensures) (subst (λ registered. IsCauseBeforeSending (request (g.R.Routable.args c.args.command.now) (names_of c.args.read_only.now registered) c.args.slot_map.now c.args.order.now) (fault_of_plan c.in-Err.fault)) c.registry.ensures
-    (early_plan (request (g.R.Routable.args c.args.command.now) (names_of c.args.read_only.now c.registry.result.now) c.args.slot_map.now c.args.order.now) c.in-Err.fault c.in-Err.ensures.fault)) in
-    let IsNode : SlotRoute → Address → Type 0 = λ route address. Unit {0} in
-    λ headline now. headline_fault IsNode g.N.Nodes.step asked old old (g.N.Nodes.may_refuse c.args.nodes.now) headline c.from.result 0
-    (inl (is_early, refl, refl))
+    λ headline now. begins asked headline.routes headline.command headline.drivable c.in-Err.fault c.in-Err.ensures.early
 
 pub returns-in-Err-clause-carried : goal.returns-in-Err-clause-carried
 returns-in-Err-clause-carried g c =
     let asked = request (g.R.Routable.args c.args.command.now) (names_of c.args.read_only.now (g.N.Nodes.registered c.args.nodes.now)) c.args.slot_map.now c.args.order.now in
-    let old = g.N.Nodes.state c.args.nodes.now in
-    let is_early : IsCauseBeforeSending asked c.from.result = subst (λ (f : DriveFault). IsCauseBeforeSending asked f) (sym c.from.ensures) (subst (λ registered. IsCauseBeforeSending (request (g.R.Routable.args c.args.command.now) (names_of c.args.read_only.now registered) c.args.slot_map.now c.args.order.now) (fault_of_plan c.in-Err.fault)) c.registry.ensures
-    (early_plan (request (g.R.Routable.args c.args.command.now) (names_of c.args.read_only.now c.registry.result.now) c.args.slot_map.now c.args.order.now) c.in-Err.fault c.in-Err.ensures.fault)) in
-    let IsNode : SlotRoute → Address → Type 0 = λ route address. Unit {0} in
-    λ routes command can all now. carried_fault IsNode g.N.Nodes.step asked old old (g.N.Nodes.may_refuse c.args.nodes.now) routes command can all c.from.result 0
-    (inl (is_early, refl, refl))
+    λ routes command can all now. begins asked routes command can c.in-Err.fault c.in-Err.ensures.early
 
 pub returns-in-Err-clause-joined : goal.returns-in-Err-clause-joined
-returns-in-Err-clause-joined g c = grind (arith, common_steps)
+returns-in-Err-clause-joined g c = λ error is.
+    let asked = request (g.R.Routable.args c.args.command.now) (names_of c.args.read_only.now (g.N.Nodes.registered c.args.nodes.now)) c.args.slot_map.now c.args.order.now in
+    absurd (subst (λ (f : DriveFault). IsCauseBeforeSending asked f) is c.in-Err.ensures.early)
 
 pub returns-in-Err-clause-given : goal.returns-in-Err-clause-given
 returns-in-Err-clause-given g c =
     record { replies = []; each = refl; gave = λ before was. subst (g.N.Nodes.gave c.args.nodes.now) (sym (append-nil before)) was }
 
-pub returns-in-Ok-clause-amid : goal.returns-in-Ok-clause-amid
-returns-in-Ok-clause-amid g c =
-    let nodes = g.N.Nodes in
-    IfOk-weaker c.drive_plan.result _ _
-    (λ value. subst (λ (args : Arguments). IsServedAmid nodes.Cell (nodes.registered c.args.nodes.now) args c.args.order.now (nodes.gave c.args.nodes.now) (nodes.gave c.drive_plan.new.nodes) (view value)) c.in-Ok.ensures.arguments)
-    c.drive_plan.ensures.amid
-
-pub returns-in-Ok-clause-parts : goal.returns-in-Ok-clause-parts
-returns-in-Ok-clause-parts g c = parts_act_by_slot g.N.Nodes.Cell (g.N.Nodes.registered c.args.nodes.now) (g.R.Routable.args c.args.command.now)
+pub returns-in-Err-clause-gaps : goal.returns-in-Err-clause-gaps
+returns-in-Err-clause-gaps g c = same_command (g.R.Routable.args c.args.command.now)
 
 pub returns-in-Err-clause-parts : goal.returns-in-Err-clause-parts
 returns-in-Err-clause-parts g c = parts_act_by_slot g.N.Nodes.Cell (g.N.Nodes.registered c.args.nodes.now) (g.R.Routable.args c.args.command.now)

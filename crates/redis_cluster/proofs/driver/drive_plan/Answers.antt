@@ -1,6 +1,5 @@
 use Rattle.std.proofs.Common.{◌≡◌, [], true, inl, inr, refl, sym, subst, length}
-use Rattle.std.specs.Prelude.{OnOk, IsSome}
-use Rattle.std.proofs.Common.{Result, Ok, Err, IfOk}
+use Rattle.std.specs.Prelude.{IsSome}
 use Rattle.std.proofs.lemmas.List.{append-nil}
 use Rattle.std.proofs.lemmas.List.Elements.{All-nil}
 use Rattle.std.proofs.lemmas.Result.{IfErr-weaker}
@@ -8,20 +7,12 @@ use Rattle.redis_routing.specs.Registry.{Registrations}
 use Rattle.redis_cluster.specs.Orders.{NamesOnce}
 use Rattle.redis_cluster.specs.Retry.{RetryState}
 use Rattle.redis_cluster.proofs.Amid.{parts_act_by_slot}
-use Rattle.redis_cluster.proofs.Ended.{ended_late, memory_is_no_reply}
+use Rattle.redis_cluster.proofs.Ended.{all_three, ended_late, memory_is_no_reply, traced_so}
 use Rattle.redis_cluster.specs.Ready.{IsPlanOf, IsPlanNode}
 use Rattle.redis_cluster.specs.declared.fault.DriveFault.TheVariants.{BadOrder}
 use Rattle.redis_cluster.proofs.Headline.{begins, headline_fault, carried_fault}
 use Rattle.redis_cluster.proofs.TriedOnce.{delivered_once, plan_tried, plan_driven, plan_cut, bad_order, bad_order_is_no_reply}
 use Rattle.redis_cluster.proofs.driver.drive_plan.Goals as goal
-
-all_three : {T E : Type 0} {A B : Type 0} (P Q : T → Type 0) (r : Result T E) → ((x : T) → A → B → P x → Q x) → OnOk r A → OnOk r B → IfOk r P → IfOk r Q
-all_three P Q (Ok x) f a b p = f x a b p
-all_three P Q (Err e) f a b p = tt
-
-traced_so : {T E : Type 0} {A : Type 0} (Q : T → Type 0) (r : Result T E) → ((x : T) → A → Q x) → OnOk r A → IfOk r Q
-traced_so Q (Ok x) f a = f x a
-traced_so Q (Err e) f a = tt
 
 pub drive_tries-requires : goal.drive_tries-requires
 drive_tries-requires g c =
@@ -33,14 +24,14 @@ returns-in-Ok-true-clause-delivered g c =
     let names : NamesOnce (length c.args.plan.split.routes) c.args.order.now = subst (λ n. NamesOnce n c.args.order.now) c.len.ensures.len (c.in-Ok-true.ensures.0 c.in-Ok-true.field-0-test) in
     traced_so _ c.drive_tries.result
     (λ value tried asked command is in_this of_these. delivered_once (IsPlanNode c.args.plan) asked (g.N.Nodes.state c.args.nodes.now).trace (g.N.Nodes.state c.drive_tries.new.nodes).trace
-    (plan_tried g.N.Nodes.step asked c.args.order.now (g.N.Nodes.registered c.args.nodes.now) (g.N.Nodes.state c.args.nodes.now) (g.N.Nodes.state c.drive_tries.new.nodes) c.args.plan command is in_this of_these names tried))
+    (plan_tried (IsPlanNode c.args.plan) g.N.Nodes.step asked c.args.order.now (g.N.Nodes.registered c.args.nodes.now) (g.N.Nodes.state c.args.nodes.now) (g.N.Nodes.state c.drive_tries.new.nodes) c.args.plan command is in_this of_these names tried))
     c.drive_tries.ensures.trace
 
 pub returns-in-Ok-true-clause-driven : goal.returns-in-Ok-true-clause-driven
 returns-in-Ok-true-clause-driven g c =
     let names : NamesOnce (length c.args.plan.split.routes) c.args.order.now = subst (λ n. NamesOnce n c.args.order.now) c.len.ensures.len (c.in-Ok-true.ensures.0 c.in-Ok-true.field-0-test) in
     all_three _ _ c.drive_tries.result
-    (λ value tried keyspace reply asked command is in_this of_these now. plan_driven g.N.Nodes.step asked c.args.order.now (g.N.Nodes.registered c.args.nodes.now) (g.N.Nodes.state c.args.nodes.now) (g.N.Nodes.state c.drive_tries.new.nodes) c.args.plan command is in_this of_these names _ tried (keyspace command (subst (λ (reg : Registrations). IsPlanOf reg command c.args.plan) of_these is.plan_is) now) (reply command (subst (λ (reg : Registrations). IsPlanOf reg command c.args.plan) of_these is.plan_is) now))
+    (λ value tried keyspace reply asked command is in_this of_these now. plan_driven (IsPlanNode c.args.plan) g.N.Nodes.step asked c.args.order.now (g.N.Nodes.registered c.args.nodes.now) (g.N.Nodes.state c.args.nodes.now) (g.N.Nodes.state c.drive_tries.new.nodes) c.args.plan command is in_this of_these names _ tried (keyspace command (subst (λ (reg : Registrations). IsPlanOf reg command c.args.plan) of_these is.plan_is) now) (reply command (subst (λ (reg : Registrations). IsPlanOf reg command c.args.plan) of_these is.plan_is) now))
     c.drive_tries.ensures.trace c.drive_tries.ensures.keyspace c.drive_tries.ensures.reply
 
 pub returns-in-Ok-true-clause-cut : goal.returns-in-Ok-true-clause-cut
@@ -48,7 +39,7 @@ returns-in-Ok-true-clause-cut g c =
     let names : NamesOnce (length c.args.plan.split.routes) c.args.order.now = subst (λ n. NamesOnce n c.args.order.now) c.len.ensures.len (c.in-Ok-true.ensures.0 c.in-Ok-true.field-0-test) in
     let nodes = g.N.Nodes in
     IfErr-weaker c.drive_tries.result _ _
-    (λ e ended asked command is in_this of_these. inr (plan_cut nodes.step asked c.args.order.now (nodes.registered c.args.nodes.now) (nodes.state c.args.nodes.now) (nodes.state c.drive_tries.new.nodes)
+    (λ e ended asked command is in_this of_these. inr (plan_cut (IsPlanNode c.args.plan) nodes.step asked c.args.order.now (nodes.registered c.args.nodes.now) (nodes.state c.args.nodes.now) (nodes.state c.drive_tries.new.nodes)
     c.args.plan command is in_this of_these names (nodes.kept c.drive_tries.new.nodes) (nodes.may_refuse c.args.nodes.now) e.fault e.answered ended).0)
     c.drive_tries.ensures.stopped
 
@@ -58,7 +49,7 @@ returns-in-Ok-true-clause-fault g c =
     let nodes = g.N.Nodes in
     IfErr-weaker c.drive_tries.result _ _
     (λ e ended asked command is in_this of_these now.
-    let cut = plan_cut nodes.step asked c.args.order.now (nodes.registered c.args.nodes.now) (nodes.state c.args.nodes.now) (nodes.state c.drive_tries.new.nodes)
+    let cut = plan_cut (IsPlanNode c.args.plan) nodes.step asked c.args.order.now (nodes.registered c.args.nodes.now) (nodes.state c.args.nodes.now) (nodes.state c.drive_tries.new.nodes)
     c.args.plan command is in_this of_these names (nodes.kept c.drive_tries.new.nodes) (nodes.may_refuse c.args.nodes.now) e.fault e.answered ended in
     inr (cut.0, (cut.1 now).0, (cut.1 now).1))
     c.drive_tries.ensures.stopped

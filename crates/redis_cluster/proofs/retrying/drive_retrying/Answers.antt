@@ -1,8 +1,6 @@
 use Rattle.std.proofs.Common.{List, [], map, inl, inr, refl, sym, subst, arith}
 use Rattle.std.specs.List.{AllZip, zip}
 use Rattle.redis_cluster.specs.Retry.{RetryState, IsRetryOf, Try}
-use Rattle.std.specs.Prelude.{OnOk}
-use Rattle.std.proofs.Common.{Result, Ok, Err, IfOk}
 use Rattle.std.proofs.lemmas.List.{append-nil}
 use Rattle.std.proofs.lemmas.Result.{IfErr-weaker, IfOk-weaker}
 use Rattle.resp_core.specs.View.{view}
@@ -24,16 +22,8 @@ use Rattle.redis_cluster.proofs.Allowed.{allowed_none}
 use Rattle.redis_cluster.proofs.Headline.{begins}
 use Rattle.redis_cluster.proofs.Laws.{one_answer}
 use Rattle.redis_cluster.proofs.Unhindered.{headline_retried, carried_retried, delivered_alone}
-use Rattle.redis_cluster.proofs.Ended.{all_tried, cut_short, ended_late, memory_is_no_reply}
+use Rattle.redis_cluster.proofs.Ended.{all_three, all_tried, cut_short, ended_late, memory_is_no_reply, traced_so}
 use Rattle.redis_cluster.proofs.retrying.drive_retrying.Goals as goal
-
-all_three : {T E : Type 0} {A B : Type 0} (P Q : T → Type 0) (r : Result T E) → ((x : T) → A → B → P x → Q x) → OnOk r A → OnOk r B → IfOk r P → IfOk r Q
-all_three P Q (Ok x) f a b p = f x a b p
-all_three P Q (Err e) f a b p = tt
-
-traced_so : {T E : Type 0} {A : Type 0} (Q : T → Type 0) (r : Result T E) → ((x : T) → A → Q x) → OnOk r A → IfOk r Q
-traced_so Q (Ok x) f a = f x a
-traced_so Q (Err e) f a = tt
 
 pub drive_tries-requires : goal.drive_tries-requires
 drive_tries-requires g c = grind (arith, each_named)
