@@ -6,7 +6,7 @@ pub use redis_combiners::{
 };
 pub use redis_routing::{
     AggregateOp, LogicalAggregateOp, MultiSlotArgPattern, MultipleNodeRoutingInfo, Names,
-    ReadOnlyNames, Redirect, RegisterError, Registry, ResponsePolicy, Routable, RoutingInfo,
-    SingleNodeRoutingInfo, SplitCommand, command_for_multi_slot_indices,
+    NodeGroup, ReadOnlyNames, Redirect, RegisterError, Registry, ResponsePolicy, Routable, Routed,
+    RoutingInfo, SingleNodeRoutingInfo, SplitCommand, command_for_multi_slot_indices,
     command_for_multi_slot_indices_with, multi_slot_routes, name_words,
 };

@@ -5,7 +5,7 @@ use fixtures::{
     or_text, plain, push_next, two, value,
 };
 use redis_cluster::routing::{
-    Routable, RoutingInfo, SplitCommand, command_for_multi_slot_indices,
+    Routable, Routed, RoutingInfo, SplitCommand, command_for_multi_slot_indices,
     command_for_multi_slot_indices_with, multi_slot_routes,
 };
 use resp_core::{Cmd, RedisResult};
@@ -49,6 +49,7 @@ fn told<R: Routable>(alloc: Global, known: &Known, name: &str, command: &R) -> R
         "route_with" => debug_or_none(alloc, route_with(alloc, known, command)?.as_ref()),
         "copied_route" => copied_route(alloc, known, command),
         "parts" => parts(alloc, known, command),
+        "routed" => routed_text(alloc, &Routed::new(alloc, command, known.names())?),
         "routes" => debug(alloc, &multi_slot_routes(alloc, command, known.names())?),
         "name" => bytes_or_none(alloc, command.command(alloc)?.as_deref()),
         _ => Err(bad_row("no call of this name")),
@@ -69,6 +70,16 @@ fn route_with<R: Routable>(
     command: &R,
 ) -> Result<Option<RoutingInfo>, AllocError> {
     RoutingInfo::for_routable_with(alloc, command, &known.read_only, &known.registry)
+}
+
+/// Where a command goes, or the routes of its parts.
+fn routed_text<R: Routable>(alloc: Global, routed: &Routed<'_, R>) -> RedisResult<String> {
+    match routed {
+        Routed::Nowhere => plain(alloc, "nowhere"),
+        Routed::One(info) => debug(alloc, info),
+        Routed::Several(group, policy) => debug(alloc, &(*group, *policy)),
+        Routed::Slots(split) => debug(alloc, &split.routes()),
+    }
 }
 
 /// Where a request goes.
