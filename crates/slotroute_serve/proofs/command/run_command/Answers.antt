@@ -7,7 +7,7 @@ use Rattle.slotroute_serve.proofs.command.run_command.Goals as goal
 
 pub slice_bounds-command_lines-count : goal.slice_bounds-command_lines-count
 slice_bounds-command_lines-count g c =
-    let sent = c.in_ok-reply.ensures.driven.2.trace in
+    let sent = c.in_ok-reply.ensures.driven.2.delivered.trace in
     grown entry_of c.trace-before.result.now c.trace.result.now _ _ sent.entries c.trace-before.ensures c.trace.ensures sent.grew
 
 pub slice_bounds-command_lines-start : goal.slice_bounds-command_lines-start
