@@ -1,5 +1,7 @@
 use Rattle.std.proofs.Common.{◌≡◌, refl, subst}
+use Rattle.std.specs.Prelude.{⊤}
 use Rattle.redis_cluster.specs.Amid.{IsServedAmid}
+use Rattle.redis_cluster.specs.Retried.{IsTryOf}
 use Rattle.redis_routing.specs.Registry.{Registrations}
 use Rattle.wire.specs.Amid.{IsServedAt}
 use Rattle.wire.specs.Said.{replies_in}
@@ -25,4 +27,4 @@ returns-clause-amid_retried g c =
     let log = g.W.Wire.log c.args.self.wire in
     subst (λ (registered : Registrations). IsServedAmid g.M.Meaning.Cell registered asked.arguments asked.order (λ replies. replies ≡ replies_in before) (λ replies. replies ≡ replies_in log) value
     → IsServedAt g.M.Meaning.Cell registered asked.arguments before log value) same
-    (served_at_retries g.M.Meaning.Cell asked _ (λ route try is. is.part) before log value tried) amid
+    (served_at_retries g.M.Meaning.Cell asked (IsTryOf (λ route address. ⊤) retries) (λ route try is. is.part) before log value tried) amid
