@@ -1,5 +1,5 @@
 -- The name of a command by its first two arguments, and the arguments that it takes.
-use Rattle.std.proofs.Common.{◌≡◌, ℕ, ◌<◌, List, [], ◌∷◌, ◌++◌, Option, Some, None, false, length, option_map, take, refl, arith}
+use Rattle.std.proofs.Common.{◌≡◌, ℕ, ◌<◌, List, [], ◌∷◌, ◌++◌, Option, Some, None, is_some, true, false, length, option_map, take, refl, arith}
 use Rattle.std.proofs.lemmas.Grind.{common_steps}
 use Rattle.redis_routing.specs.Upper.{upper}
 use Rattle.redis_routing.specs.TwoWords.{takes_second}
@@ -22,6 +22,11 @@ has_words (Some first ∷ Some second ∷ rest) name named =
     by_test (takes_second (upper first))
     (λ takes. rw takes (record { texts = first ∷ second ∷ []; all = refl; taken = refl }))
     (λ alone. rw alone (record { texts = first ∷ []; all = refl; taken = refl }))
+
+pub named_has_words : (args : Arguments) → is_some (command_name args) ≡ true → HasWords (name_words_of args) args
+named_has_words [] named = absurd (cc named)
+named_has_words (None ∷ rest) named = absurd (cc named)
+named_has_words (Some first ∷ rest) named = has_words (Some first ∷ rest) _ refl
 
 -- how many words a first one makes that takes no second one
 pub words_alone : (first : List ℕ) (second : Option (List ℕ)) → takes_second (upper first) ≡ false → words_by (Some first) second ≡ 1

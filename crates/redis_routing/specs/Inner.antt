@@ -1,2 +1,3 @@
+pub mod NameRule
 pub mod NameSpots
 pub mod SlotPages

@@ -4,6 +4,7 @@
 
 mod info;
 mod lookup;
+mod name_rule;
 mod names;
 mod places;
 mod policy;

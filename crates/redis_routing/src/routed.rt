@@ -1,28 +1,25 @@
-ghost use Rattle.std.specs.Prelude.{◌≡◌, [], None, Some, true, IfOk, IfSome, option_copied, option_map, unwrap_or};
+ghost use Rattle.std.specs.Prelude.{◌≡◌, [], None, Some, true, IfOk, IfSome, is_some, option_copied, option_map, unwrap_or};
 ghost use Rattle.redis_routing.specs.Command.{command_name};
 ghost use Rattle.redis_routing.specs.Complete.{routes_by};
-ghost use Rattle.redis_routing.specs.MultiKeyNames.{TellsSplit, split_of};
+ghost use Rattle.redis_routing.specs.Inner.NameRule.{destination_routing};
 ghost use Rattle.redis_routing.specs.Names.{names_in, names_of};
 ghost use Rattle.redis_routing.specs.Policies.{joins_parts};
 ghost use Rattle.redis_routing.specs.PresentArguments.{present_arguments};
-ghost use Rattle.redis_routing.specs.ReadOnly.{is_among};
-ghost use Rattle.redis_routing.specs.Registry.{tables_with};
-ghost use Rattle.redis_routing.specs.RouteBy.{pattern_of};
 ghost use Rattle.redis_routing.specs.Routed.{IsByName, IsRouted, routing_of, split_routed};
-ghost use Rattle.redis_routing.specs.Routing.{routing_by, to_slots};
+ghost use Rattle.redis_routing.specs.Routing.{to_slots};
 ghost use Rattle.redis_routing.specs.RoutingInfo.{one_node};
 
 use super::info::SingleNodeRoutingInfo;
-use super::rules::{after_streams, by_count, to_key, to_key_or_any, to_slot};
+use super::name_rule::{NameRule, rule_for};
+use super::rules::{Destination, destination_of, to_key};
 use super::split_command::SplitCommand;
-use super::splitting::{present_len, routes_by_slot, words_of};
+use super::splitting::{present_len, routes_by_slot};
 use crate::names::Names;
 use crate::policy::ResponsePolicy;
 use crate::read_only::ReadOnlyNames;
 use crate::registry::Registry;
 use crate::routable::Routable;
-use crate::route_by::{RouteBy, routing_and_policy};
-use crate::words::{ROOM, short_name};
+use crate::words::name_words;
 use cluster_slots::{MultiSlotArgPattern, Route};
 use std::alloc::{AllocError, Global};
 
@@ -67,9 +64,8 @@ impl<'a, R: Routable> Routed<'a, R> {
         Self::by_tables(alloc, command, names.read_only, Some(names.registry))
     }
 
-    /// As `new` has it by the tables, and by a registry if there is one. A name takes memory only
-    /// where it is longer than each name of the tables.
-    pub(super) fn by_tables(
+    /// As `new` has it by the tables, and by a registry if there is one.
+    fn by_tables(
         alloc: Global,
         command: &'a R,
         read_only: &ReadOnlyNames,
@@ -79,55 +75,25 @@ impl<'a, R: Routable> Routed<'a, R> {
             (IsRouted (names_of read_only.now (unwrap_or (option_copied registry.entry) []))
             (R.args command.now)) }
     {
-        let mut room = [0; ROOM];
-        // One call for both names, so that the route is made in place and not copied.
-        let short = short_name(command, &mut room);
-        let long = match short {
-            Some(_) => None,
-            None => command.command(alloc)?,
-        };
-        let name = match (short, &long) {
-            (Some(len), _) => &room[..len],
-            (None, Some(name)) => name.as_slice(),
-            (None, None) => return Ok(Routed::Nowhere),
-        };
-        Self::by_name(alloc, command, name, read_only, registry)
-    }
-
-    /// As `by_tables` has it for a command of the name.
-    fn by_name(
-        alloc: Global,
-        command: &'a R,
-        name: &[u8],
-        read_only: &ReadOnlyNames,
-        registry: Option<&Registry>,
-    ) -> Result<Self, AllocError>
-        requires name { Some name.now ≡ command_name (R.args command.now) }
-        ensures { IfOk result
-            (IsRouted (names_of read_only.now (unwrap_or (option_copied registry.entry) []))
-            (R.args command.now)) }
-    {
-        let (route_by, policy) = looked_up(name, registry);
-        match route_by {
-            Some(RouteBy::MultiSlot(pattern)) => {
-                let Some(policy) = policy else { unreachable!() };
-                let reads = read_only.contains(name);
-                Self::by_slots(alloc, command, name, pattern, policy, reads)
+        match rule_for(alloc, command, read_only, registry)? {
+            NameRule::Split(pattern, policy, reads) => {
+                Self::by_slots(alloc, command, pattern, policy, reads)
             }
-            _ => Ok(Self::whole(command, name, read_only, route_by, policy)),
+            NameRule::Whole(route_by, policy, reads) => {
+                Ok(Self::whole(destination_of(command, route_by, policy, reads)))
+            }
         }
     }
 
     /// A command that is split, by its pattern and its policy.
-    fn by_slots(
+    pub(super) fn by_slots(
         alloc: Global,
         command: &'a R,
-        name: &[u8],
         pattern: MultiSlotArgPattern,
         policy: ResponsePolicy,
         reads: bool,
     ) -> Result<Self, AllocError>
-        requires name { Some name.now ≡ command_name (R.args command.now) }
+        requires name { is_some (command_name (R.args command.now)) ≡ true }
         requires joins { joins_parts policy ≡ true }
         ensures goes { IfOk result (λ routed. routing_of routed
             ≡ to_slots reads (Some policy) pattern (present_arguments (R.args command.now))) }
@@ -138,7 +104,7 @@ impl<'a, R: Routable> Routed<'a, R> {
             × (s.policy ≡ policy))) }
         ensures by_name { IfOk result IsByName }
     {
-        let words = words_of(command, name);
+        let words = name_words(command);
         let count = present_len(command, words);
         if pattern.is_complete(count) {
             let routes = routes_by_slot(alloc, command, words, pattern, count, reads)?;
@@ -157,41 +123,15 @@ impl<'a, R: Routable> Routed<'a, R> {
         Ok(Self::one(to_key(command.arg_idx(words), reads)))
     }
 
-    /// A command that is not split, by how its name is routed and by its policy.
-    fn whole(
-        command: &R,
-        name: &[u8],
-        read_only: &ReadOnlyNames,
-        route_by: Option<RouteBy>,
-        policy: Option<ResponsePolicy>,
-    ) -> Self
-        requires whole { pattern_of route_by ≡ None }
-        ensures goes { routing_of result
-            ≡ routing_by policy (is_among read_only.now name.now) (R.args command.now) route_by }
+    /// A command that is not split, by where it goes.
+    fn whole(destination: Destination) -> Self
+        ensures goes { routing_of result ≡ destination_routing destination }
         ensures whole { split_routed result ≡ None }
         ensures by_name { IsByName result }
     {
-        let Some(route_by) = route_by else {
-            return Self::one(to_key_or_any(command.arg_idx(1), read_only.contains(name)));
-        };
-        match route_by {
-            RouteBy::AllNodes => Routed::Several(NodeGroup::AllNodes, policy),
-            RouteBy::AllMasters => Routed::Several(NodeGroup::AllMasters, policy),
-            RouteBy::MultiSlot(_) => unreachable!(),
-            RouteBy::Undefined => Routed::Nowhere,
-            RouteBy::CountAt(place) => {
-                let place = usize::from(place);
-                Self::one(by_count(command, place, read_only.contains(name)))
-            }
-            RouteBy::KeyAt(place) => {
-                let key = command.arg_idx(usize::from(place));
-                Self::one(to_key(key, read_only.contains(name)))
-            }
-            RouteBy::KeyAfterStreams => {
-                Self::one(after_streams(command, read_only.contains(name)))
-            }
-            RouteBy::Random => Self::one(Some(None)),
-            RouteBy::SlotAt(place) => Self::one(to_slot(command.arg_idx(usize::from(place)))),
+        match destination {
+            Destination::One(node) => Self::one(node),
+            Destination::Several(nodes, policy) => Routed::Several(nodes, policy),
         }
     }
 
@@ -207,20 +147,5 @@ impl<'a, R: Routable> Routed<'a, R> {
             Some(None) => Routed::One(SingleNodeRoutingInfo::Random),
             None => Routed::Nowhere,
         }
-    }
-}
-
-/// How the name is routed, and its policy, by the tables, and by a registry if there is one.
-fn looked_up(name: &[u8], registry: Option<&Registry>) -> (Option<RouteBy>, Option<ResponsePolicy>)
-    ensures routing { result.0
-        ≡ (tables_with (unwrap_or (option_copied registry.entry) [])).route_by name.now }
-    ensures policy { result.1
-        ≡ (tables_with (unwrap_or (option_copied registry.entry) [])).policy name.now }
-    ensures split { TellsSplit (split_of (unwrap_or (option_copied registry.entry) []) name.now)
-        result.0 result.1 }
-{
-    match registry {
-        Some(registry) => registry.routing_and_policy(name),
-        None => routing_and_policy(name),
     }
 }

@@ -1,14 +1,18 @@
-ghost use Rattle.std.specs.Prelude.{◌≡◌, ◌<◌, ◌^◌, ◌+◌, IfOk, [], Some, option_map, option_copied, unwrap_or, codes, position};
-ghost use Rattle.redis_routing.specs.Command.{Arguments, IsRespelt, argument, is_word};
+ghost use Rattle.std.specs.Prelude.{◌≡◌, ◌<◌, ◌^◌, ◌+◌, IfOk, [], None, Some, true, is_some, option_map, option_copied, unwrap_or, codes, position};
+ghost use Rattle.redis_routing.specs.Command.{Arguments, IsRespelt, argument, command_name, is_word};
+ghost use Rattle.redis_routing.specs.Inner.NameRule.{destination_routing};
 ghost use Rattle.redis_routing.specs.Laws.{Covers, ArePartsPicked, ArePartsRouted, IfSplit};
+ghost use Rattle.redis_routing.specs.RouteBy.{pattern_of};
 ghost use Rattle.redis_routing.specs.Routed.{group_nodes};
 ghost use Rattle.redis_routing.specs.RoutingInfo.{as_routing, multi_node, one_node};
 ghost use Rattle.redis_routing.specs.Names.{names_of};
 ghost use Rattle.redis_routing.specs.NameWords.{name_words_of};
-ghost use Rattle.redis_routing.specs.Routing.{routing, routing_of_routes, to_key, to_key_or_any, to_key_after, to_slot, by_count, argument_number};
+ghost use Rattle.redis_routing.specs.Routing.{routing, routing_by, routing_of_routes, to_slots, to_key, to_key_or_any, to_key_after, to_slot, by_count, argument_number};
+ghost use Rattle.redis_routing.specs.Policies.{joins_parts};
 ghost use Rattle.redis_routing.specs.PresentArguments.{present_arguments};
 
 use super::info::{MultipleNodeRoutingInfo, RoutingInfo, SingleNodeRoutingInfo, nodes_for};
+use super::name_rule::{NameRule, rule_for};
 use super::routed::{NodeGroup, Routed};
 use super::split_command::SplitCommand;
 use super::splitting::routing_of_routes;
@@ -16,7 +20,8 @@ use crate::policy::ResponsePolicy;
 use crate::read_only::ReadOnlyNames;
 use crate::registry::Registry;
 use crate::routable::Routable;
-use cluster_slots::{Route, Slot, SlotAddr, parse_u16, parse_u64};
+use crate::route_by::RouteBy;
+use cluster_slots::{MultiSlotArgPattern, Route, Slot, SlotAddr, parse_u16, parse_u64};
 use std::alloc::{AllocError, Global};
 
 impl RoutingInfo {
@@ -108,18 +113,59 @@ fn for_command<R: Routable>(
         ≡ routing (names_of read_only.now (unwrap_or (option_copied registry.entry) []))
         (R.args command.now)) }
 {
-    let routed = Routed::by_tables(alloc, command, read_only, registry)?;
-    if let Routed::One(SingleNodeRoutingInfo::SpecificNode(route)) = &routed {
-        // Its two fields are copied, and not the room for an address.
-        let route = Route::new(route.slot(), route.slot_addr());
+    let rule = rule_for(alloc, command, read_only, registry)?;
+    // Each route is made in place by a return of its own, and not copied.
+    let (route_by, policy, reads) = match rule {
+        NameRule::Split(pattern, policy, reads) => {
+            return by_slots(alloc, command, pattern, policy, reads);
+        }
+        NameRule::Whole(route_by, policy, reads) => (route_by, policy, reads),
+    };
+    let destination = destination_of(command, route_by, policy, reads);
+    if let Destination::One(Some(Some(route))) = destination {
         let node = SingleNodeRoutingInfo::SpecificNode(route);
         return Ok(Some(RoutingInfo::SingleNode(node)));
     }
-    match routed {
+    Ok(to_nodes(destination))
+}
+
+/// Where a command goes that is split, by its pattern and its policy.
+#[inline(never)]
+fn by_slots<R: Routable>(
+    alloc: Global,
+    command: &R,
+    pattern: MultiSlotArgPattern,
+    policy: ResponsePolicy,
+    reads: bool,
+) -> Result<Option<RoutingInfo>, AllocError>
+    requires name { is_some (command_name (R.args command.now)) ≡ true }
+    requires joins { joins_parts policy ≡ true }
+    ensures { IfOk result (λ info. option_map as_routing info
+        ≡ to_slots reads (Some policy) pattern (present_arguments (R.args command.now))) }
+{
+    match Routed::by_slots(alloc, command, pattern, policy, reads)? {
         Routed::Nowhere => Ok(None),
         Routed::One(node) => Ok(Some(RoutingInfo::SingleNode(node))),
         Routed::Several(nodes, policy) => Ok(Some(to_several(nodes, policy))),
-        Routed::Slots(split) => Ok(Some(to_slots(split))),
+        Routed::Slots(split) => Ok(Some(to_routes(split))),
+    }
+}
+
+/// To the node or the nodes of a destination.
+#[inline(never)]
+fn to_nodes(destination: Destination) -> Option<RoutingInfo>
+    ensures { option_map as_routing result ≡ destination_routing destination }
+{
+    match destination {
+        Destination::One(Some(Some(route))) => {
+            let node = SingleNodeRoutingInfo::SpecificNode(route);
+            Some(RoutingInfo::SingleNode(node))
+        }
+        Destination::One(Some(None)) => {
+            Some(RoutingInfo::SingleNode(SingleNodeRoutingInfo::Random))
+        }
+        Destination::One(None) => None,
+        Destination::Several(nodes, policy) => Some(to_several(nodes, policy)),
     }
 }
 
@@ -134,7 +180,7 @@ fn to_several(nodes: NodeGroup, policy: Option<ResponsePolicy>) -> RoutingInfo
 }
 
 /// To one node if there is one route, and else to the node of each route.
-fn to_slots<R: Routable>(split: SplitCommand<'_, R>) -> RoutingInfo
+fn to_routes<R: Routable>(split: SplitCommand<'_, R>) -> RoutingInfo
     ensures { as_routing result ≡ routing_of_routes split.entry.pattern (Some split.entry.policy)
         split.entry.routes }
 {
@@ -142,15 +188,58 @@ fn to_slots<R: Routable>(split: SplitCommand<'_, R>) -> RoutingInfo
     routing_of_routes(split.routes, split.pattern, policy)
 }
 
+/// Where a command goes that is not split.
+#[derive(Clone, Copy)]
+pub(super) enum Destination {
+    /// To the node of the route, or to any node without a route, or to no node.
+    One(Option<Option<Route>>),
+    /// To each of several nodes, with the policy.
+    Several(NodeGroup, Option<ResponsePolicy>),
+}
+
+/// Where a command goes that is not split, by how its name is routed and by its policy.
+#[inline(always)]
+pub(super) fn destination_of<R: Routable>(
+    command: &R,
+    route_by: Option<RouteBy>,
+    policy: Option<ResponsePolicy>,
+    reads: bool,
+) -> Destination
+    requires whole { pattern_of route_by ≡ None }
+    ensures { destination_routing result ≡ routing_by policy reads (R.args command.now) route_by }
+{
+    let Some(route_by) = route_by else {
+        return Destination::One(to_key_or_any(command.arg_idx(1), reads));
+    };
+    match route_by {
+        RouteBy::AllNodes => Destination::Several(NodeGroup::AllNodes, policy),
+        RouteBy::AllMasters => Destination::Several(NodeGroup::AllMasters, policy),
+        RouteBy::MultiSlot(_) => unreachable!(),
+        RouteBy::Undefined => Destination::One(None),
+        RouteBy::CountAt(place) => {
+            Destination::One(by_count(command, usize::from(place), reads))
+        }
+        RouteBy::KeyAt(place) => {
+            let key = command.arg_idx(usize::from(place));
+            Destination::One(to_key(key, reads))
+        }
+        RouteBy::KeyAfterStreams => Destination::One(after_streams(command, reads)),
+        RouteBy::Random => Destination::One(Some(None)),
+        RouteBy::SlotAt(place) => { Destination::One(to_slot(command.arg_idx(usize::from(place)))) }
+    }
+}
+
 /// To a node of the key's slot, if there is a key. In this result and those below, no route stands
 /// for any node.
+#[inline(always)]
 pub(super) fn to_key(key: Option<&[u8]>, reads: bool) -> Option<Option<Route>>
     ensures { one_node result ≡ to_key reads (option_copied key.entry) }
 {
     Some(Some(Route::with_key(key?, nodes_for(reads))))
 }
 
-pub(super) fn to_key_or_any(key: Option<&[u8]>, reads: bool) -> Option<Option<Route>>
+#[inline(always)]
+fn to_key_or_any(key: Option<&[u8]>, reads: bool) -> Option<Option<Route>>
     ensures { one_node result ≡ to_key_or_any reads (option_copied key.entry) }
 {
     match key {
@@ -160,7 +249,7 @@ pub(super) fn to_key_or_any(key: Option<&[u8]>, reads: bool) -> Option<Option<Ro
 }
 
 /// By the count of keys at a place and the first key after it.
-pub(super) fn by_count<R: Routable>(command: &R, place: usize, reads: bool) -> Option<Option<Route>>
+fn by_count<R: Routable>(command: &R, place: usize, reads: bool) -> Option<Option<Route>>
     requires { place < 2 ^ 16 }
     ensures { one_node result
         ≡ by_count reads (argument_number 64 (argument (R.args command.now) place))
@@ -173,7 +262,7 @@ pub(super) fn by_count<R: Routable>(command: &R, place: usize, reads: bool) -> O
     to_key(command.arg_idx(place + 1), reads)
 }
 
-pub(super) fn after_streams<R: Routable>(command: &R, reads: bool) -> Option<Option<Route>>
+fn after_streams<R: Routable>(command: &R, reads: bool) -> Option<Option<Route>>
     ensures { one_node result ≡ to_key_after reads (R.args command.now)
         (position (is_word (codes "STREAMS")) (R.args command.now)) }
 {
@@ -182,7 +271,7 @@ pub(super) fn after_streams<R: Routable>(command: &R, reads: bool) -> Option<Opt
 }
 
 /// To the primary of the slot that the argument writes.
-pub(super) fn to_slot(number: Option<&[u8]>) -> Option<Option<Route>>
+fn to_slot(number: Option<&[u8]>) -> Option<Option<Route>>
     ensures { one_node result ≡ to_slot (argument_number 16 (option_copied number.entry)) }
 {
     let slot = Slot::new(parse_u16(number?)?)?;

@@ -7,6 +7,7 @@ ghost use Rattle.redis_routing.specs.Policies.{joins_parts};
 ghost use Rattle.redis_routing.specs.Split.{Split, IsSplit, route_part, policy_by_name};
 ghost use Rattle.redis_routing.specs.RoutingInfo.{route_lists};
 
+use super::name_rule::{NameRule, rule_for};
 use super::routed::Routed;
 use super::sub_commands::sub_command;
 use crate::names::Names;
@@ -73,7 +74,11 @@ impl<'a, R: Routable> SplitCommand<'a, R> {
         ensures policy { IfOk result (λ split. IfSome split (λ s. Some s.policy
             ≡ policy_by_name names.entry.registry.now (command_name (R.args command.now)))) }
     {
-        match Routed::new(alloc, command, names)? {
+        let rule = rule_for(alloc, command, names.read_only, Some(names.registry))?;
+        let NameRule::Split(pattern, policy, reads) = rule else {
+            return Ok(None);
+        };
+        match Routed::by_slots(alloc, command, pattern, policy, reads)? {
             Routed::Slots(split) => Ok(Some(split)),
             _ => Ok(None),
         }

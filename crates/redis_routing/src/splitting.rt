@@ -6,8 +6,6 @@ ghost use Rattle.redis_routing.specs.Inner.SlotPages.{AreNumbered};
 ghost use Rattle.redis_routing.specs.Groups.{lists_of_tuples, with_places, with_shared};
 ghost use Rattle.redis_routing.specs.RoutingInfo.{as_routing, route_lists};
 ghost use Rattle.redis_routing.specs.Routing.{routes_of, routing_of_routes};
-ghost use Rattle.redis_routing.specs.Command.{command_name};
-ghost use Rattle.redis_routing.specs.NameWords.{name_words_of};
 ghost use Rattle.redis_routing.specs.PresentArguments.{present_arguments_after};
 ghost use Rattle.redis_routing.specs.Split.{slots_of};
 ghost use Rattle.redis_routing.specs.Tuples.{tuples_in};
@@ -21,18 +19,6 @@ use std::alloc::{AllocError, Global};
 
 /// The most routes that there is room for at first.
 const FIRST_ROUTES: usize = 40;
-
-/// The number of arguments that a command's name takes. A name longer than the first argument takes
-/// two.
-pub(super) fn words_of<R: Routable>(command: &R, name: &[u8]) -> usize
-    requires { Some name.now ≡ command_name (R.args command.now) }
-    ensures { result ≡ name_words_of (R.args command.now) }
-{
-    match command.arg_idx(0) {
-        Some(first) if first.len() < name.len() => 2,
-        _ => 1,
-    }
-}
 
 /// The routes of a command's `count` arguments after a name of `words` words, which make whole
 /// tuples.

@@ -1,0 +1,109 @@
+ghost use Rattle.std.specs.Prelude.{◌≡◌, Option, [], Some, IfOk, option_copied, unwrap_or};
+ghost use Rattle.redis_routing.specs.Command.{Arguments, command_name};
+ghost use Rattle.redis_routing.specs.Inner.NameRule.{IsRuleFor};
+ghost use Rattle.redis_routing.specs.MultiKeyNames.{TellsSplit, split_of};
+ghost use Rattle.redis_routing.specs.Names.{names_of};
+ghost use Rattle.redis_routing.specs.ReadOnly.{is_among};
+ghost use Rattle.redis_routing.specs.Registry.{tables_with};
+ghost use Rattle.redis_routing.specs.Routing.{routing_by};
+ghost use Rattle.redis_routing.specs.declared.policy.ResponsePolicy.{ResponsePolicy};
+
+use crate::policy::ResponsePolicy;
+use crate::read_only::ReadOnlyNames;
+use crate::registry::Registry;
+use crate::routable::Routable;
+use crate::route_by::{RouteBy, routing_and_policy};
+use crate::words::{ROOM, short_name};
+use cluster_slots::MultiSlotArgPattern;
+use std::alloc::{AllocError, Global};
+
+/// What the name of a command says of where it goes, and whether the command only reads.
+#[derive(Clone, Copy)]
+pub(super) enum NameRule {
+    /// It is split by slot, under the pattern. The policy says how the replies to its parts make
+    /// one.
+    Split(MultiSlotArgPattern, ResponsePolicy, bool),
+    /// It is not split. Whether it only reads is told where that matters.
+    Whole(Option<RouteBy>, Option<ResponsePolicy>, bool),
+}
+
+/// The rule of a command's name, by the tables, and by a registry if there is one. A name takes
+/// memory only where it is longer than each name of the tables.
+#[inline(always)]
+pub(super) fn rule_for<R: Routable>(
+    alloc: Global,
+    command: &R,
+    read_only: &ReadOnlyNames,
+    registry: Option<&Registry>,
+) -> Result<NameRule, AllocError>
+    ensures { IfOk result
+        (IsRuleFor (names_of read_only.now (unwrap_or (option_copied registry.entry) []))
+        (R.args command.now)) }
+{
+    let mut room = [0; ROOM];
+    // One call for both names, so that the rule stays in registers.
+    let short = short_name(command, &mut room);
+    let long = match short {
+        Some(_) => None,
+        None => command.command(alloc)?,
+    };
+    let name = match (short, &long) {
+        (Some(len), _) => &room[..len],
+        (None, Some(name)) => name.as_slice(),
+        (None, None) => return Ok(NameRule::Whole(Some(RouteBy::Undefined), None, false)),
+    };
+    Ok(rule_of_name(command, name, read_only, registry))
+}
+
+/// As `rule_for` has it for a command of the name.
+#[inline(always)]
+fn rule_of_name<R: Routable>(
+    command: &R,
+    name: &[u8],
+    read_only: &ReadOnlyNames,
+    registry: Option<&Registry>,
+) -> NameRule
+    requires name { Some name.now ≡ command_name (R.args command.now) }
+    ensures { IsRuleFor (names_of read_only.now (unwrap_or (option_copied registry.entry) []))
+        (R.args command.now) result }
+{
+    let (route_by, policy) = looked_up(name, registry);
+    match route_by {
+        Some(RouteBy::MultiSlot(pattern)) => {
+            let Some(policy) = policy else { unreachable!() };
+            NameRule::Split(pattern, policy, read_only.contains(name))
+        }
+        _ => NameRule::Whole(route_by, policy, reads(name, read_only, route_by)),
+    }
+}
+
+/// Whether commands of a name only read, where that matters. The name is looked up only if a key
+/// tells the node.
+#[inline(always)]
+fn reads(name: &[u8], read_only: &ReadOnlyNames, route_by: Option<RouteBy>) -> bool
+    ensures { (policy : Option ResponsePolicy) (args : Arguments)
+        → routing_by policy result args route_by
+        ≡ routing_by policy (is_among read_only.now name.now) args route_by }
+{
+    match route_by {
+        Some(RouteBy::AllNodes) | Some(RouteBy::AllMasters) => false,
+        Some(RouteBy::Undefined) | Some(RouteBy::Random) | Some(RouteBy::SlotAt(_)) => false,
+        _ => read_only.contains(name),
+    }
+}
+
+/// How the name is routed, and its policy, by the tables, and by a registry if there is one.
+#[inline(always)]
+fn looked_up(name: &[u8], registry: Option<&Registry>) -> (Option<RouteBy>, Option<ResponsePolicy>)
+    ensures routing { result.0
+        ≡ (tables_with (unwrap_or (option_copied registry.entry) [])).route_by name.now }
+    ensures policy { result.1
+        ≡ (tables_with (unwrap_or (option_copied registry.entry) [])).policy name.now }
+    ensures split { TellsSplit (split_of (unwrap_or (option_copied registry.entry) []) name.now)
+        result.0 result.1 }
+{
+    match registry {
+        Some(registry) => registry.routing_and_policy(name),
+        None => routing_and_policy(name),
+    }
+}
