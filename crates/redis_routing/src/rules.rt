@@ -4,7 +4,7 @@ ghost use Rattle.redis_routing.specs.Inner.NameRule.{destination_routing};
 ghost use Rattle.redis_routing.specs.Laws.{Covers, ArePartsPicked, ArePartsRouted, IfSplit};
 ghost use Rattle.redis_routing.specs.RouteBy.{pattern_of};
 ghost use Rattle.redis_routing.specs.Routed.{group_nodes};
-ghost use Rattle.redis_routing.specs.RoutingInfo.{as_routing, multi_node, one_node};
+ghost use Rattle.redis_routing.specs.RoutingInfo.{as_routing, multi_node, one_node, single_node, specific_node};
 ghost use Rattle.redis_routing.specs.Names.{names_of};
 ghost use Rattle.redis_routing.specs.NameWords.{name_words_of};
 ghost use Rattle.redis_routing.specs.Routing.{routing, routing_by, routing_of_routes, to_slots, to_key, to_key_or_any, to_key_after, to_slot, by_count, argument_number};
@@ -123,8 +123,7 @@ fn for_command<R: Routable>(
     };
     let destination = destination_of(command, route_by, policy, reads);
     if let Destination::One(Some(Some(route))) = destination {
-        let node = SingleNodeRoutingInfo::SpecificNode(route);
-        return Ok(Some(RoutingInfo::SingleNode(node)));
+        return Ok(Some(to_specific_node(route)));
     }
     Ok(to_nodes(destination))
 }
@@ -157,16 +156,20 @@ fn to_nodes(destination: Destination) -> Option<RoutingInfo>
     ensures { option_map as_routing result ≡ destination_routing destination }
 {
     match destination {
-        Destination::One(Some(Some(route))) => {
-            let node = SingleNodeRoutingInfo::SpecificNode(route);
-            Some(RoutingInfo::SingleNode(node))
-        }
+        Destination::One(Some(Some(route))) => Some(to_specific_node(route)),
         Destination::One(Some(None)) => {
             Some(RoutingInfo::SingleNode(SingleNodeRoutingInfo::Random))
         }
         Destination::One(None) => None,
         Destination::Several(nodes, policy) => Some(to_several(nodes, policy)),
     }
+}
+
+#[inline(always)]
+fn to_specific_node(route: Route) -> RoutingInfo
+    ensures { as_routing result ≡ single_node (specific_node route) }
+{
+    RoutingInfo::SingleNode(SingleNodeRoutingInfo::SpecificNode(route))
 }
 
 fn to_several(nodes: NodeGroup, policy: Option<ResponsePolicy>) -> RoutingInfo
