@@ -15,3 +15,4 @@ pub mod Readers
 pub mod NumberLines
 pub mod RequestGrammar
 pub mod ArrayItems
+pub mod VersionHeads

@@ -62,6 +62,17 @@ goes_on wanted (n ∷ items) left front rest h (k ∷ others) message after m e 
     let items_is : k ≡ n = sym (ap (λ (p : ℕ × List ℕ). p.0) is) in
     goes_on (wanted - 1 + n) items left h.1 rest h.5 others m.1 after (subst (λ (i : ℕ). AreHeads (wanted - 1 + i) others 0 m.1) items_is m.5) (ap (λ (p : ℕ × List ℕ). p.1) is)
 
+-- one message stands at the front
+pub same_message : (message rest other after : List ℕ) → IsMessage message → IsMessage other → message ++ rest ≡ other ++ after → message ≡ other
+same_message message rest other after is is_other e =
+    let g = goes_on 1 is.0 0 message rest is.1 is_other.0 other after is_other.1 e in
+    let long : length message ≡ length other = omega (arith, ap (length {A = ℕ}) (g.rest_is ∙ ended g.items g.more g.heads), ap (length {A = ℕ}) e, length-append message rest, length-append other after) in
+    sym (take_at message rest (length message) refl) ∙ ap (take (length message)) e ∙ take_at other after (length message) (sym long)
+  where
+    ended : (items : List ℕ) (more : List ℕ) → AreHeads 0 items 0 more → more ++ after ≡ after
+    ended [] more h = ap (λ (b : List ℕ). b ++ after) h.1
+    ended (n ∷ items) more h = absurd (omega (arith, h.4))
+
 -- ---- no message
 
 no_head : (items : ℕ) (rest : List ℕ) (fault : Fault) → done {A = ℕ × List ℕ} (items, rest) ≡ failed fault → ⊥

@@ -12,6 +12,7 @@ mod requests;
 mod response;
 mod scanning;
 mod stop;
+mod versions;
 mod writing;
 
 pub use fault::{Fault, ReadError, RequestError, RequestFault, WriteError};
@@ -20,4 +21,5 @@ pub use reading::{MAX_LEVELS, read};
 pub use requests::{read_args, read_request, request_len};
 pub use response::Response;
 pub use scanning::{Progress, reply_len, scan};
+pub use versions::is_version_2;
 pub use writing::{push_array_line, push_bulk, push_command, write, write_command};

@@ -1,5 +1,8 @@
 //! Commands, values and errors.
-use fixtures::{bad_row, cmd, debug, equality, number, plain, shown, two, value};
+use fixtures::{
+    bad_row, cmd, debug, debug_result, equality_result, number, plain, shown, shown_result, two,
+    value,
+};
 use resp::write_command;
 use resp_core::{Cmd, ErrorKind, RedisError, RedisResult};
 use std::alloc::Global;
@@ -7,14 +10,14 @@ use std::alloc::Global;
 /// What a call of this name returns.
 pub fn call(alloc: Global, name: &str, words: &str) -> RedisResult<String> {
     match name {
-        "debug" => debug(alloc, &cmd(alloc, words)?),
-        "with_capacity" => debug(alloc, &Cmd::with_capacity(alloc, number(words)?)?),
+        "debug" => debug_result(alloc, cmd(alloc, words)),
+        "with_capacity" => debug_result(alloc, Cmd::with_capacity(alloc, number(words)?)),
         "with_room" => with_room(alloc, words),
         "arg" => arg(alloc, words),
         "request" => debug(alloc, &write_command(alloc, &cmd(alloc, words)?)?),
-        "copied" => equality(alloc, &cmd(alloc, words)?),
-        "copied_value" => equality(alloc, &value(alloc, words)?),
-        "error" => shown(alloc, &error(alloc, words)?),
+        "copied" => equality_result(alloc, cmd(alloc, words)),
+        "copied_value" => equality_result(alloc, value(alloc, words)),
+        "error" => shown_result(alloc, error(alloc, words)),
         "same_error" => same_error(alloc, words),
         _ => Err(bad_row("no call of this name")),
     }
@@ -23,10 +26,7 @@ pub fn call(alloc: Global, name: &str, words: &str) -> RedisResult<String> {
 /// A new command with room for these numbers of items and bytes.
 fn with_room(alloc: Global, words: &str) -> RedisResult<String> {
     let (items, bytes) = two(words);
-    debug(
-        alloc,
-        &Cmd::with_room(alloc, number(items)?, number(bytes)?)?,
-    )
+    debug_result(alloc, Cmd::with_room(alloc, number(items)?, number(bytes)?))
 }
 
 /// A command of two words. If the second one is refused, the command must not change.

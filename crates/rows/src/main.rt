@@ -5,7 +5,9 @@
 mod addresses;
 mod commands;
 mod faults;
+mod links;
 mod maps;
+mod order;
 mod picked;
 mod plans;
 mod ranges;
@@ -13,11 +15,13 @@ mod reads;
 mod routing;
 mod slots;
 
+use crate::order::Order;
 use crate::routing::{Known, combiners, pipelines};
 use cluster_map::SlotMap;
 use fixtures::{Calls, bad_row, debug, run};
 use redis_cluster::pipeline::{ClusterPipeline, cluster_pipe};
 use resp_core::RedisResult;
+use session_core::Link;
 use std::alloc::Global;
 use std::process::ExitCode;
 
@@ -27,6 +31,8 @@ struct Rows {
     map: SlotMap,
     known: Known,
     pipeline: ClusterPipeline,
+    link: Link,
+    order: Order,
 }
 
 impl Rows {
@@ -49,6 +55,8 @@ impl Rows {
             "combining" => combiners::call(alloc, name, words),
             "pipelines" => pipelines::call(&mut self.pipeline, alloc, name, words),
             "plans" => plans::call(&self.map, alloc, name, words),
+            "links" => links::call(&mut self.link, alloc, name, words),
+            "order" => self.order.call(alloc, name, words),
             _ => Err(bad_row("no topic of this name")),
         }
     }
@@ -77,6 +85,8 @@ fn main(rt: HostRuntime) -> ExitCode {
         map: SlotMap::new(alloc),
         known: Known::new(alloc),
         pipeline: cluster_pipe(alloc),
+        link: Link::new(alloc, 0),
+        order: Order::new(alloc),
     };
     run(&rt, &mut rows)
 }

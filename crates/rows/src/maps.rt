@@ -5,8 +5,8 @@ mod shards;
 use crate::picked::are_few_in_vain;
 use cluster_map::{Route, SlotMap, parse_slots, slot_cmd};
 use fixtures::{
-    Turns, bad_row, cmd_text, debug, equality, lines, map, number, okay, ranges, slot_addr, two,
-    value,
+    Turns, bad_row, cmd_text, debug, debug_result, equality_result, lines, map, number, okay,
+    ranges, slot_addr, two, value,
 };
 use resp_core::RedisResult;
 use std::alloc::Global;
@@ -30,9 +30,9 @@ fn ask(slots: &SlotMap, alloc: Global, name: &str, words: &str) -> RedisResult<S
         "node" => node(alloc, slots, words),
         "nodes" => nodes(alloc, slots, words),
         "picked" | "told" => picks::picked(alloc, slots, words, name == "told"),
-        "fallback" => debug(alloc, &slots.shard_fallback_addrs(alloc, route_of(words)?)?),
-        "primaries" => debug(alloc, &slots.addresses_for_all_primaries(alloc)?),
-        "all_nodes" => debug(alloc, &slots.addresses_for_all_nodes(alloc)?),
+        "fallback" => debug_result(alloc, slots.shard_fallback_addrs(alloc, route_of(words)?)),
+        "primaries" => debug_result(alloc, slots.addresses_for_all_primaries(alloc)),
+        "all_nodes" => debug_result(alloc, slots.addresses_for_all_nodes(alloc)),
         "topology" => shards::listed(alloc, &slots.topology(alloc)?),
         "shard" => shards::at(alloc, &slots.topology(alloc)?, number(words)?),
         _ => make(alloc, name, words),
@@ -44,7 +44,7 @@ fn make(alloc: Global, name: &str, words: &str) -> RedisResult<String> {
     match name {
         "parsed" => parsed(alloc, words),
         "shards" | "copied_shards" | "shard_of" => shards::call(alloc, name, words),
-        "copied_ranges" => equality(alloc, &ranges(alloc, words)?),
+        "copied_ranges" => equality_result(alloc, ranges(alloc, words)),
         "slots_command" => cmd_text(alloc, &slot_cmd(alloc)?),
         "few_in_vain" => are_few_in_vain(alloc, words),
         _ => Err(bad_row("no call of this name")),

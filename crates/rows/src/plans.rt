@@ -3,9 +3,11 @@
 use crate::reads::asked;
 use crate::routing::Known;
 use cluster_map::SlotMap;
-use fixtures::{bad_row, cmd, cut, number, or_text, push_next, shown, two, value_text, values};
+use fixtures::{
+    answer_of, bad_row, cmd, cut, number, or_text, push_next, shown, two, value_text, values,
+};
 use redis_commands::CommandPlan;
-use resp_core::{Cmd, ErrorKind, RedisError, RedisResult, Value};
+use resp_core::{Cmd, RedisResult, Value};
 use std::alloc::Global;
 
 /// What a call of this name returns.
@@ -36,19 +38,8 @@ fn made(alloc: Global, slots: &SlotMap, command: &Cmd, answers: Vec<Value>) -> R
     plan.combine(alloc)
 }
 
-/// What a target answered: an error, if a row writes it as a simple string that begins with `-`.
-fn answer_of(alloc: Global, value: Value) -> RedisResult<RedisResult<Value>> {
-    if let Value::SimpleString(text) = &value {
-        if text.starts_with("-") {
-            let detail = shown(alloc, text)?;
-            return Ok(Err(RedisError::from((ErrorKind::Client, "", detail))));
-        }
-    }
-    Ok(Ok(value))
-}
-
 /// The targets of a plan, a space apart.
-fn nodes(alloc: Global, plan: &CommandPlan<'_, Cmd>) -> RedisResult<String> {
+pub fn nodes(alloc: Global, plan: &CommandPlan<'_, Cmd>) -> RedisResult<String> {
     let mut text = String::new(alloc);
     for number in 0..plan.len() {
         if let Some(node) = plan.node(number) {

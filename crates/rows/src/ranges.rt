@@ -1,15 +1,15 @@
 //! Maps of ranges of slots: the first slot of a range, the last, and a value.
 use cluster_map::SlotRangeMap;
-use fixtures::{bad_row, debug, lines, number, pieces, plain, push_next, two};
+use fixtures::{bad_row, debug_result, lines, number, pieces, plain, push_next, two};
 use resp_core::RedisResult;
 use std::alloc::Global;
 
 /// What a call of this name returns.
 pub fn call(alloc: Global, name: &str, words: &str) -> RedisResult<String> {
     match name {
-        "inserted" => debug(alloc, &inserted(alloc, words)?),
-        "extended" => debug(alloc, &extended(alloc, words)?),
-        "copied" => debug(alloc, &inserted(alloc, words)?.clone()?),
+        "inserted" => debug_result(alloc, inserted(alloc, words)),
+        "extended" => debug_result(alloc, extended(alloc, words)),
+        "copied" => debug_result(alloc, inserted(alloc, words)?.clone()),
         "listed" => listed(alloc, &inserted(alloc, words)?),
         "at" => at(alloc, words),
         _ => Err(bad_row("no call of this name")),

@@ -1,0 +1,59 @@
+//! One connection of a session, of which earlier rows tell what happened.
+use fixtures::{bad_row, bytes, cut, debug, number, okay, two};
+use resp_core::RedisResult;
+use session_core::{Link, Standing, Ticket};
+use std::alloc::Global;
+
+/// What a call of this name returns.
+pub fn call(link: &mut Link, alloc: Global, name: &str, words: &str) -> RedisResult<String> {
+    match name {
+        "link" => *link = Link::new(alloc, number(words)?),
+        "end" if link.standing() != Standing::Ended => link.end(),
+        "wrote" => wrote(link, number(words)?)?,
+        "standing" => return debug(alloc, &link.standing()),
+        "unwritten" => return debug(alloc, &link.unwritten()),
+        "lose" if link.standing() == Standing::Ended => return debug(alloc, &link.lose()),
+        _ => return on_open(link, alloc, name, words),
+    }
+    okay(alloc)
+}
+
+/// What a call of this name returns that takes an open link.
+fn on_open(link: &mut Link, alloc: Global, name: &str, words: &str) -> RedisResult<String> {
+    if link.standing() != Standing::Open {
+        return Err(bad_row("not on a link that stands so"));
+    }
+    match name {
+        "ask" => ask(link, alloc, words)?,
+        "hear" => link.hear(&bytes(alloc, words)?)?,
+        "take" => return debug(alloc, &link.take(alloc)?),
+        _ => return Err(bad_row("no call of this name")),
+    }
+    okay(alloc)
+}
+
+/// Asks a request, for `login`, for `map`, or for a part as `7.0`, before which `asking` may stand.
+fn ask(link: &mut Link, alloc: Global, words: &str) -> RedisResult<()> {
+    let (word, rest) = two(words);
+    let request = bytes(alloc, rest)?;
+    if request.is_empty() || link.standing() != Standing::Open {
+        return Err(bad_row("no request on an open link"));
+    }
+    let (call, part) = cut(word, ".");
+    match (word, call.strip_prefix("asking:")) {
+        ("login", _) => link.ask(Ticket::Login, &request)?,
+        ("map", _) => link.ask(Ticket::Map(0), &request)?,
+        (_, Some(call)) => link.ask_asking(number(call)?, number(part)?, &request)?,
+        (_, None) => link.ask(Ticket::Part(number(call)?, number(part)?), &request)?,
+    }
+    Ok(())
+}
+
+/// Notes that bytes were written, if there are so many.
+fn wrote(link: &mut Link, count: usize) -> RedisResult<()> {
+    if link.standing() == Standing::Ended || count > link.unwritten().len() {
+        return Err(bad_row("more than is to be written"));
+    }
+    link.wrote(count);
+    Ok(())
+}

@@ -1,0 +1,21 @@
+pub mod Scans
+pub mod LinkSteps
+pub mod LinkRuns
+pub mod Runs
+pub mod AfterEvents
+pub mod Waiting
+pub mod Moves
+pub mod Courses
+pub mod Ordering
+pub mod Turns
+pub mod Answering
+pub mod OnLinks
+pub mod Puts
+mod Examples
+pub mod PlaceLists
+pub mod SummaryTrees
+pub mod LanePlaces
+pub mod LaneKeeping
+pub mod CallerPlaces
+pub mod CallerGate
+pub mod ReplyPlaces

@@ -1,0 +1,340 @@
+-- What holds of each run of a link.
+use Rattle.std.proofs.Common.{inl, inr, ◌≡◌, ◌≤◌, ◌+◌, ◌++◌, ℕ, zero, suc, Bool, List, [], ◌∷◌, length, take, drop, map, Some, subst, sym, refl, ap, ◌∙◌, append_assoc, append-nil, arith, length-append, length-drop}
+use Rattle.std.proofs.Math.Seq.{drop-append_seam}
+use Rattle.std.proofs.lemmas.Grind.{flat_map-append}
+use Rattle.std.proofs.lemmas.List.Elements.{All-nil, All-cons}
+use Rattle.std.specs.Prelude.{nat_lt}
+use Rattle.std.specs.List.{All, slice_get}
+use Rattle.resp.proofs.Messages.{same_message}
+use Rattle.session_core.specs.declared.link.Ticket.{Ticket}
+use Rattle.session_core.specs.declared.link.Ticket.TheVariants.{Asking}
+use Rattle.session_core.specs.declared.link.Wait.{Wait}
+use Rattle.session_core.specs.declared.link.BreakCause.{BreakCause}
+use Rattle.session_core.specs.declared.link.BreakCause.TheVariants.{Malformed, Stray, Early, TooLong}
+use Rattle.session_core.specs.declared.link.Standing.{Standing}
+use Rattle.session_core.specs.declared.link.Standing.TheVariants.{Open, Ended}
+use Rattle.session_core.specs.Channel.{Channel, Ask, written, fresh, bytes_of, placed}
+use Rattle.session_core.specs.Reply.{IsReply}
+use Rattle.session_core.specs.LinkEvents.{Event, Put, Write, Hear, Take, Break, End, Lose, May, Run, IsStep, IsPart, after, asking}
+use Rattle.session_core.specs.LinkRuns.{asked, taken, lost, count_written, came, loss, IsSilent, BeginsWithPart, IsAccounted}
+
+-- ---- one step
+
+-- the run after its first step
+next : (event : Event) (events : List Event) (c d : Channel) → Run c (event ∷ events) d → Run (after event c) events d
+next event events c d run = subst (λ (m : Channel). Run m events d) run.1.is run.2
+
+split : (before more : List Event) (c d : Channel) → Run c (before ++ more) d → (mid : Channel) × Run mid more d
+split [] more c d run = (c, run)
+split (event ∷ before) more c d run = split before more run.0 d run.2
+
+open_or_ended : {s : Standing} → s ≡ Open → s ≡ Ended → ⊥
+open_or_ended e f = absurd (cc)
+
+-- ---- silence
+
+silent : (events : List Event) (c d : Channel) → Run c events d → (c.standing ≡ Open → ⊥) → IsSilent events
+silent [] c d run shut = (refl, refl, refl)
+silent (Put asks ∷ es) c d run shut = absurd (shut run.1.may.0)
+silent (Write n ∷ es) c d run shut = silent es (after (Write n) c) d (next (Write n) es c d run) shut
+silent (Hear b ∷ es) c d run shut = absurd (shut run.1.may)
+silent (Take t r ∷ es) c d run shut = absurd (shut run.1.may.is_open)
+silent (Break w ∷ es) c d run shut = absurd (shut run.1.may.0)
+silent (End ∷ es) c d run shut = silent es (after End c) d (next End es c d run) (λ e. absurd (cc))
+silent (Lose t b ∷ es) c d run shut = silent es (after (Lose t b) c) d (next (Lose t b) es c d run) shut
+
+after_event : (event : Event) (before more events : List Event) (c d : Channel) → Run c events d → events ≡ before ++ event ∷ more → ((mid : Channel) → (after event mid).standing ≡ Open → ⊥) → IsSilent more
+after_event event before more events c d run e shut =
+    let r = split before (event ∷ more) c d (subst (λ (es : List Event). Run c es d) e run) in
+    silent more (after event r.0) d (next event more r.0 d r.1) (shut r.0)
+
+-- ---- what came
+
+incoming : (events : List Event) (c d : Channel) → Run c events d → c.heard ++ came events ≡ bytes_of (taken events) ++ d.heard
+incoming [] c d run = append-nil c.heard ∙ ap (λ (m : Channel). m.heard) (sym run)
+incoming (Put asks ∷ es) c d run = incoming es (after (Put asks) c) d (next (Put asks) es c d run)
+incoming (Write n ∷ es) c d run = incoming es (after (Write n) c) d (next (Write n) es c d run)
+incoming (Hear b ∷ es) c d run = sym (append_assoc c.heard b (came es)) ∙ incoming es (after (Hear b) c) d (next (Hear b) es c d run)
+incoming (Take t r ∷ es) c d run =
+    let m = run.1.may.came in
+    let left : drop (length r) c.heard ≡ m.rest = ap (drop (length r)) m.is ∙ drop-append_seam r m.rest in
+    ap (λ (x : List ℕ). x ++ came es) (m.is ∙ ap (λ (x : List ℕ). r ++ x) (sym left)) ∙ append_assoc r (drop (length r) c.heard) (came es)
+    ∙ ap (λ (x : List ℕ). r ++ x) (incoming es (after (Take t r) c) d (next (Take t r) es c d run)) ∙ sym (append_assoc r (bytes_of (taken es)) d.heard)
+incoming (Break w ∷ es) c d run = incoming es (after (Break w) c) d (next (Break w) es c d run)
+incoming (End ∷ es) c d run = incoming es (after End c) d (next End es c d run)
+incoming (Lose t b ∷ es) c d run = incoming es (after (Lose t b) c) d (next (Lose t b) es c d run)
+
+same_most : (events : List Event) (c d : Channel) → Run c events d → d.most ≡ c.most
+same_most [] c d run = ap (λ (m : Channel). m.most) run
+same_most (Put asks ∷ es) c d run = same_most es (after (Put asks) c) d (next (Put asks) es c d run)
+same_most (Write n ∷ es) c d run = same_most es (after (Write n) c) d (next (Write n) es c d run)
+same_most (Hear b ∷ es) c d run = same_most es (after (Hear b) c) d (next (Hear b) es c d run)
+same_most (Take t r ∷ es) c d run = same_most es (after (Take t r) c) d (next (Take t r) es c d run)
+same_most (Break w ∷ es) c d run = same_most es (after (Break w) c) d (next (Break w) es c d run)
+same_most (End ∷ es) c d run = same_most es (after End c) d (next End es c d run)
+same_most (Lose t b ∷ es) c d run = same_most es (after (Lose t b) c) d (next (Lose t b) es c d run)
+
+abbrev IsShortReply : ℕ → Ask → Type 0
+IsShortReply most t = IsReply t.1 × (length t.1 ≤ most)
+
+replies : (events : List Event) (c d : Channel) → Run c events d → All (IsShortReply c.most) (taken events)
+replies [] c d run = All-nil _
+replies (Put asks ∷ es) c d run = replies es (after (Put asks) c) d (next (Put asks) es c d run)
+replies (Write n ∷ es) c d run = replies es (after (Write n) c) d (next (Write n) es c d run)
+replies (Hear b ∷ es) c d run = replies es (after (Hear b) c) d (next (Hear b) es c d run)
+replies (Take t r ∷ es) c d run = All-cons (IsShortReply c.most) (t, r) (taken es) (run.1.may.is, run.1.may.short) (replies es (after (Take t r) c) d (next (Take t r) es c d run))
+replies (Break w ∷ es) c d run = replies es (after (Break w) c) d (next (Break w) es c d run)
+replies (End ∷ es) c d run = replies es (after End c) d (next End es c d run)
+replies (Lose t b ∷ es) c d run = replies es (after (Lose t b) c) d (next (Lose t b) es c d run)
+
+-- ---- what is written
+
+abbrev IsWithin : Channel → Type 0
+IsWithin c = length c.unwritten ≤ c.given
+
+abbrev count_of : Event → ℕ
+count_of (Write n) = n
+count_of event = 0
+
+counts : (event : Event) (events : List Event) → count_written (event ∷ events) ≡ count_of event + count_written events
+counts (Put asks) es = omega arith
+counts (Write n) es = refl
+counts (Hear b) es = omega arith
+counts (Take t r) es = omega arith
+counts (Break w) es = omega arith
+counts End es = omega arith
+counts (Lose t b) es = omega arith
+
+within : (event : Event) (c : Channel) → May event c → IsWithin c → IsWithin (after event c)
+within (Put asks) c may h = omega (arith, length-append c.unwritten (bytes_of asks))
+within (Write n) c may h = omega (arith, length-drop n c.unwritten)
+within (Hear b) c may h = h
+within (Take t r) c may h = h
+within (Break w) c may h = h
+within End c may h = h
+within (Lose t b) c may h = h
+
+adds : (event : Event) (c : Channel) → May event c → IsWithin c → written (after event c) ≡ written c + count_of event
+adds (Put asks) c may h = omega (arith, length-append c.unwritten (bytes_of asks))
+adds (Write n) c may h = omega (arith, may.1, length-drop n c.unwritten)
+adds (Hear b) c may h = omega arith
+adds (Take t r) c may h = omega arith
+adds (Break w) c may h = omega arith
+adds End c may h = omega arith
+adds (Lose t b) c may h = omega arith
+
+counted_is : (events : List Event) (c d : Channel) → Run c events d → IsWithin c → written d ≡ written c + count_written events
+counted_is [] c d run h = ap written run ∙ omega arith
+counted_is (event ∷ es) c d run h =
+    omega (arith, counts event es, adds event c run.1.may h, counted_is es (after event c) d (next event es c d run) (within event c run.1.may h))
+
+-- Nothing is written once the connection ended.
+none_written : (events : List Event) (c d : Channel) → Run c events d → c.standing ≡ Ended → written d ≡ written c
+none_written [] c d run ended = ap written run
+none_written (Put asks ∷ es) c d run ended = absurd (open_or_ended run.1.may.0 ended)
+none_written (Write n ∷ es) c d run ended = absurd (run.1.may.0 ended)
+none_written (Hear b ∷ es) c d run ended = absurd (open_or_ended run.1.may ended)
+none_written (Take t r ∷ es) c d run ended = absurd (open_or_ended run.1.may.is_open ended)
+none_written (Break w ∷ es) c d run ended = absurd (open_or_ended run.1.may.0 ended)
+none_written (End ∷ es) c d run ended = absurd (run.1.may ended)
+none_written (Lose t b ∷ es) c d run ended = none_written es (after (Lose t b) c) d (next (Lose t b) es c d run) ended
+
+drop_both : (n k : ℕ) (u x : List ℕ) → n ≤ length u → drop k (drop n u ++ x) ≡ drop (n + k) (u ++ x)
+drop_both zero k u x h = ap (λ (m : ℕ). drop m (u ++ x)) (omega arith)
+drop_both (suc n) k [] x h = absurd (omega arith)
+drop_both (suc n) k (y ∷ u) x h =
+    let more : suc (n + k) ≡ suc n + k = omega arith in
+    drop_both n k u x (omega arith) ∙ ap (λ (m : ℕ). drop m ((y ∷ u) ++ x)) more
+
+bytes-append : (xs ys : List Ask) → bytes_of (xs ++ ys) ≡ bytes_of xs ++ bytes_of ys
+bytes-append xs ys = flat_map-append (λ (ask : Ask). ask.1) xs ys
+
+abbrev IsOutgoing : ℕ → List ℕ → Channel → Type 0
+IsOutgoing count bytes d = d.unwritten ≡ drop count bytes
+
+outgoing : (events : List Event) (c d : Channel) → Run c events d → IsOutgoing (count_written events) (c.unwritten ++ bytes_of (asked events)) d
+outgoing [] c d run = ap (λ (m : Channel). m.unwritten) run ∙ sym (append-nil c.unwritten)
+outgoing (Put asks ∷ es) c d run =
+    outgoing es (after (Put asks) c) d (next (Put asks) es c d run)
+    ∙ ap (drop (count_written es)) (append_assoc c.unwritten (bytes_of asks) (bytes_of (asked es)) ∙ ap (λ (b : List ℕ). c.unwritten ++ b) (sym (bytes-append asks (asked es))))
+outgoing (Write n ∷ es) c d run = outgoing es (after (Write n) c) d (next (Write n) es c d run) ∙ drop_both n (count_written es) c.unwritten (bytes_of (asked es)) run.1.may.1
+outgoing (Hear b ∷ es) c d run = outgoing es (after (Hear b) c) d (next (Hear b) es c d run)
+outgoing (Take t r ∷ es) c d run = outgoing es (after (Take t r) c) d (next (Take t r) es c d run)
+outgoing (Break w ∷ es) c d run = outgoing es (after (Break w) c) d (next (Break w) es c d run)
+outgoing (End ∷ es) c d run = outgoing es (after End c) d (next End es c d run)
+outgoing (Lose t b ∷ es) c d run = outgoing es (after (Lose t b) c) d (next (Lose t b) es c d run)
+
+given_is : (events : List Event) (c d : Channel) → Run c events d → d.given ≡ c.given + length (bytes_of (asked events))
+given_is [] c d run = ap (λ (m : Channel). m.given) run ∙ omega arith
+given_is (Put asks ∷ es) c d run =
+    omega (arith, given_is es (after (Put asks) c) d (next (Put asks) es c d run), ap (length {A = ℕ}) (bytes-append asks (asked es)), length-append (bytes_of asks) (bytes_of (asked es)))
+given_is (Write n ∷ es) c d run = given_is es (after (Write n) c) d (next (Write n) es c d run)
+given_is (Hear b ∷ es) c d run = given_is es (after (Hear b) c) d (next (Hear b) es c d run)
+given_is (Take t r ∷ es) c d run = given_is es (after (Take t r) c) d (next (Take t r) es c d run)
+given_is (Break w ∷ es) c d run = given_is es (after (Break w) c) d (next (Break w) es c d run)
+given_is (End ∷ es) c d run = given_is es (after End c) d (next End es c d run)
+given_is (Lose t b ∷ es) c d run = given_is es (after (Lose t b) c) d (next (Lose t b) es c d run)
+
+-- ---- who waits, is answered and is lost
+
+-- all that wait, or are asked later
+abbrev all_waits : List Event → Channel → List Wait
+all_waits es c = c.waits ++ placed c.given (asked es)
+
+-- Of these the first are answered, the next lost, and the others wait.
+record AreInTurn (answered : List Ask) (losses : List (Ticket × Bool)) (waits : List Wait) (d : Channel) : Type 0 where
+  tickets : map (λ t. t.0) answered ≡ map (λ (w : Wait). w.ticket) (take (length answered) waits)
+  ends : All (λ (w : Wait). w.end ≤ written d) (take (length answered) waits)
+  losses_are : losses ≡ map (loss (written d)) (take (length losses) (drop (length answered) waits))
+  others : d.waits ≡ drop (length answered + length losses) waits
+
+placed-append : (start : ℕ) (xs ys : List Ask) → placed start (xs ++ ys) ≡ placed start xs ++ placed (start + length (bytes_of xs)) ys
+placed-append start [] ys = ap (λ (n : ℕ). placed n ys) (omega arith)
+placed-append start (x ∷ xs) ys =
+    let sum : start + length x.1 + length (bytes_of xs) ≡ start + length (bytes_of (x ∷ xs)) = omega (arith, length-append x.1 (bytes_of xs)) in
+    ap (λ (ws : List Wait). record { ticket = x.0; start = start; end = start + length x.1 } ∷ ws)
+    (placed-append (start + length x.1) xs ys ∙ ap (λ (n : ℕ). placed (start + length x.1) xs ++ placed n ys) sum)
+
+first_of : (waits : List Wait) (w : Wait) → slice_get waits 0 ≡ Some w → waits ≡ w ∷ drop 1 waits
+first_of [] w e = absurd (cc)
+first_of (x ∷ waits) w e = cc
+
+took : (w : Wait) (t : Ticket) (r : List ℕ) (answered : List Ask) (losses : List (Ticket × Bool)) (waits : List Wait) (d : Channel) → w.ticket ≡ t → w.end ≤ written d → AreInTurn answered losses waits d
+    → AreInTurn ((t, r) ∷ answered) losses (w ∷ waits) d
+took w t r answered losses waits d own done h =
+    let count : suc (length answered + length losses) ≡ suc (length answered) + length losses = omega arith in
+    record {
+      tickets = ap (λ (ts : List Ticket). t ∷ ts) h.tickets ∙ ap (λ (u : Ticket). u ∷ map (λ (v : Wait). v.ticket) (take (length answered) waits)) (sym own);
+      ends = All-cons (λ (v : Wait). v.end ≤ written d) w (take (length answered) waits) done h.ends;
+      losses_are = h.losses_are;
+      others = h.others ∙ ap (λ (n : ℕ). drop n (w ∷ waits)) count;
+    }
+
+gave_up : (w : Wait) (t : Ticket) (b : Bool) (losses : List (Ticket × Bool)) (waits : List Wait) (d : Channel) → w.ticket ≡ t → b ≡ nat_lt w.start (written d) → AreInTurn [] losses waits d
+    → AreInTurn [] ((t, b) ∷ losses) (w ∷ waits) d
+gave_up w t b losses waits d own begun h =
+    let count : suc (0 + length losses) ≡ 0 + suc (length losses) = omega arith in
+    let head : (t, b) ≡ loss (written d) w = ap (λ (u : Ticket). (u, b)) (sym own) ∙ ap (λ (x : Bool). (w.ticket, x)) begun in
+    record {
+      tickets = refl;
+      ends = All-nil _;
+      losses_are = ap (λ (x : Ticket × Bool). x ∷ losses) head ∙ ap (λ (xs : List (Ticket × Bool)). loss (written d) w ∷ xs) h.losses_are;
+      others = h.others ∙ ap (λ (n : ℕ). drop n (w ∷ waits)) count;
+    }
+
+in_turn : (events : List Event) (c d : Channel) → Run c events d → IsWithin c → AreInTurn (taken events) (lost events) (all_waits events c) d
+in_turn [] c d run h = record { tickets = refl; ends = All-nil _; losses_are = refl; others = ap (λ (m : Channel). m.waits) run ∙ sym (append-nil c.waits) }
+in_turn (Put asks ∷ es) c d run h =
+    let same : all_waits es (after (Put asks) c) ≡ all_waits (Put asks ∷ es) c = append_assoc c.waits (placed c.given asks) _ ∙ ap (λ (ws : List Wait). c.waits ++ ws) (sym (placed-append c.given asks (asked es))) in
+    subst (λ (ws : List Wait). AreInTurn (taken es) (lost es) ws d) same (in_turn es (after (Put asks) c) d (next (Put asks) es c d run) (within (Put asks) c run.1.may h))
+in_turn (Write n ∷ es) c d run h = in_turn es (after (Write n) c) d (next (Write n) es c d run) (within (Write n) c run.1.may h)
+in_turn (Hear b ∷ es) c d run h = in_turn es (after (Hear b) c) d (next (Hear b) es c d run) h
+in_turn (Take t r ∷ es) c d run h =
+    let m = run.1.may in
+    let done : m.wait.end ≤ written d = omega (arith, m.was_written, counted_is (Take t r ∷ es) c d run h) in
+    subst (λ (ws : List Wait). AreInTurn ((t, r) ∷ taken es) (lost es) (ws ++ placed c.given (asked es)) d) (sym (first_of c.waits m.wait m.first))
+    (took m.wait t r (taken es) (lost es) _ d m.ticket_is done (in_turn es (after (Take t r) c) d (next (Take t r) es c d run) h))
+in_turn (Break w ∷ es) c d run h = in_turn es (after (Break w) c) d (next (Break w) es c d run) h
+in_turn (End ∷ es) c d run h = in_turn es (after End c) d (next End es c d run) h
+in_turn (Lose t b ∷ es) c d run h =
+    let m = run.1.may in
+    let left = next (Lose t b) es c d run in
+    let none : taken es ≡ [] = (silent es (after (Lose t b) c) d left (λ e. open_or_ended e m.ended)).2 in
+    let same : written d ≡ written c = none_written es (after (Lose t b) c) d left m.ended in
+    let begun : b ≡ nat_lt m.wait.start (written d) = m.begun_is ∙ ap (λ (n : ℕ). nat_lt m.wait.start n) (sym same) in
+    let others = subst (λ (ts : List Ask). AreInTurn ts (lost es) (drop 1 c.waits ++ placed c.given (asked es)) d) none (in_turn es (after (Lose t b) c) d left h) in
+    subst (λ (ts : List Ask). AreInTurn ts ((t, b) ∷ lost es) (c.waits ++ placed c.given (asked es)) d) (sym none)
+    (subst (λ (ws : List Wait). AreInTurn [] ((t, b) ∷ lost es) (ws ++ placed c.given (asked es)) d) (sym (first_of c.waits m.wait m.first)) (gave_up m.wait t b (lost es) _ d m.ticket_is begun others))
+
+tickets_placed : (start n : ℕ) (asks : List Ask) → map (λ (w : Wait). w.ticket) (take n (placed start asks)) ≡ take n (map (λ (ask : Ask). ask.0) asks)
+tickets_placed start zero asks = refl
+tickets_placed start (suc n) [] = refl
+tickets_placed start (suc n) (ask ∷ asks) = ap (λ (ts : List Ticket). ask.0 ∷ ts) (tickets_placed (start + length ask.1) n asks)
+
+-- ---- `ASKING` and its part
+
+abbrev IsFollowed : Ask → List Ask → Type 0
+IsFollowed ask more = ask.0 ≡ Asking → (ask.1 ≡ asking) × BeginsWithPart more
+
+abbrev ArePaired : List Ask → Type 0
+ArePaired [] = Unit {0}
+ArePaired (ask ∷ more) = IsFollowed ask more × ArePaired more
+
+step_paired : (asks : List Ask) → IsStep asks → ArePaired asks
+step_paired [] h = absurd h
+step_paired (ask ∷ []) h = (λ e. absurd (h.0 e), tt)
+step_paired (ask ∷ part ∷ []) h = (λ e. (ap (λ (a : Ask). a.1) h.0, h.1), (λ e. absurd (subst IsPart e h.1), tt))
+step_paired (ask ∷ part ∷ third ∷ more) h = absurd h
+
+begins-append : (xs ys : List Ask) → BeginsWithPart xs → BeginsWithPart (xs ++ ys)
+begins-append [] ys h = absurd h
+begins-append (x ∷ xs) ys h = h
+
+paired-append : (xs ys : List Ask) → ArePaired xs → ArePaired ys → ArePaired (xs ++ ys)
+paired-append [] ys h k = k
+paired-append (x ∷ xs) ys h k = (
+  λ e.
+      let f = h.0 e in
+      (f.0, begins-append xs ys f.1),
+  paired-append xs ys h.1 k,
+)
+
+paired : (events : List Event) (c d : Channel) → Run c events d → ArePaired (asked events)
+paired [] c d run = tt
+paired (Put asks ∷ es) c d run = paired-append asks (asked es) (step_paired asks run.1.may.1) (paired es (after (Put asks) c) d (next (Put asks) es c d run))
+paired (Write n ∷ es) c d run = paired es (after (Write n) c) d (next (Write n) es c d run)
+paired (Hear b ∷ es) c d run = paired es (after (Hear b) c) d (next (Hear b) es c d run)
+paired (Take t r ∷ es) c d run = paired es (after (Take t r) c) d (next (Take t r) es c d run)
+paired (Break w ∷ es) c d run = paired es (after (Break w) c) d (next (Break w) es c d run)
+paired (End ∷ es) c d run = paired es (after End c) d (next End es c d run)
+paired (Lose t b ∷ es) c d run = paired es (after (Lose t b) c) d (next (Lose t b) es c d run)
+
+followed : (asks before more : List Ask) (request : List ℕ) → ArePaired asks → asks ≡ before ++ (Asking, request) ∷ more → (request ≡ asking) × BeginsWithPart more
+followed asks before more request h e = at before (subst ArePaired e h)
+  where
+    at : (before : List Ask) → ArePaired (before ++ (Asking, request) ∷ more) → (request ≡ asking) × BeginsWithPart more
+    at [] h = h.0 refl
+    at (ask ∷ before) h = at before h.1
+
+-- ---- all together
+
+pub accounted : (events : List Event) (most : ℕ) (c : Channel) → Run (fresh most) events c → IsAccounted events c
+accounted events most c run =
+    let some : IsWithin (fresh most) = omega arith in
+    let turn = in_turn events (fresh most) c run some in
+    let count : written c ≡ count_written events = omega (arith, counted_is events (fresh most) c run some) in
+    record {
+      in_turn = turn.tickets ∙ tickets_placed 0 (length (taken events)) (asked events);
+      was_written = turn.ends;
+      incoming = incoming events (fresh most) c run;
+      replies = subst (λ (n : ℕ). All (IsShortReply n) (taken events)) (sym (same_most events (fresh most) c run)) (replies events (fresh most) c run);
+      outgoing = outgoing events (fresh most) c run ∙ ap (λ (n : ℕ). drop n (bytes_of (asked events))) (sym count);
+      given_is = given_is events (fresh most) c run ∙ omega arith;
+      written_is = count;
+      losses = turn.losses_are;
+      waiting = turn.others;
+      asking_before_part = λ before more request e. followed (asked events) before more request (paired events (fresh most) c run) e;
+      silent_after_break = λ before more cause e. after_event (Break cause) before more events (fresh most) c run e (λ mid h. absurd (cc));
+      silent_after_end = λ before more e. after_event End before more events (fresh most) c run e (λ mid h. absurd (cc));
+    }
+
+-- ---- no reply is left
+
+no_wait : (waits : List Wait) (wait : Wait) → waits ≡ [] → slice_get waits 0 ≡ Some wait → ⊥
+no_wait waits wait none some = absurd (cc)
+
+same_wait : (a b : Wait) → Some a ≡ Some b → a ≡ b
+same_wait a b e = cc
+
+pub take_or_break : (c : Channel) (cause : BreakCause) (ticket : Ticket) (reply : List ℕ) → May (Break cause) c → May (Take ticket reply) c → ⊥
+take_or_break c Malformed ticket reply b t = b.1 [] reply t.came.rest t.is (append-nil c.heard ∙ t.came.is)
+take_or_break c Stray ticket reply b t = no_wait c.waits t.wait b.1.1 t.first
+take_or_break c Early ticket reply b t =
+    let same = same_wait t.wait b.1.1 (sym t.first ∙ b.1.2) in
+    omega (arith, b.1.3, t.was_written, ap (λ (w : Wait). w.end) same)
+take_or_break c TooLong ticket reply b t = elim b.1 [
+  | inl long ↦
+      let same = same_message long.0 long.2.rest reply t.came.rest long.1 t.is.0 (sym long.2.is ∙ t.came.is) in
+      omega (arith, long.3, t.short, ap (length {A = ℕ}) same)
+  | inr more ↦ more.0.0 reply t.came.rest t.is.0 t.came.is
+]

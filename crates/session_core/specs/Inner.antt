@@ -1,0 +1,5 @@
+pub mod Ready
+pub mod GateKept
+pub mod Kept
+pub mod OwedFrom
+pub mod Summaries

@@ -1,0 +1,12 @@
+pub mod Channel
+pub mod Reply
+pub mod LinkEvents
+pub mod LinkRuns
+pub mod Taken
+pub mod Inner
+pub mod Part
+pub mod State
+pub mod History
+pub mod Lane
+pub mod Caller
+pub mod Replies
