@@ -2,7 +2,9 @@
 mod retries;
 
 use crate::driving::Driven;
-use fixtures::{bad_row, cmd, cut, number, numbers, or_text, shown, two, value_text, values};
+use fixtures::{
+    answer_of, bad_row, cmd, cut, number, numbers, or_text, shown, two, value_text, values,
+};
 use redis_cluster::driver::{Nodes, SplitPlan, names_once};
 use redis_cluster::routing::Names;
 use resp_core::{Cmd, RedisResult, Value};
@@ -32,26 +34,26 @@ fn plan_of<'a>(
     or_text(alloc, plan)
 }
 
-/// The reply of a command whose parts have these replies.
+/// The reply of a command whose parts have these answers.
 fn combined(
     alloc: Global,
     driven: &Driven,
     command: &Cmd,
-    replies: Vec<Value>,
+    answers: Vec<Value>,
 ) -> RedisResult<Value> {
     let mut plan = plan_of(alloc, driven, command)?;
-    for (number, reply) in replies.into_iter().enumerate() {
-        let _ = plan.tell(number, reply);
+    for (number, answer) in answers.into_iter().enumerate() {
+        let _ = plan.tell(number, answer_of(alloc, answer)?);
     }
     plan.combine(alloc)
 }
 
-/// The outcome of replies that are passed to the parts of a command.
+/// The outcome of answers that are passed to the plan of a command.
 fn combine(alloc: Global, driven: &Driven, words: &str) -> RedisResult<String> {
-    let (command, replies) = cut(words, "; ");
+    let (command, answers) = cut(words, "; ");
     let command = cmd(alloc, command)?;
-    let replies = values(alloc, replies)?;
-    value_text(alloc, &combined(alloc, driven, &command, replies)?)
+    let answers = values(alloc, answers)?;
+    value_text(alloc, &combined(alloc, driven, &command, answers)?)
 }
 
 /// Whether an order names this many parts, each once.

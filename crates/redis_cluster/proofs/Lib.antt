@@ -31,7 +31,6 @@ pub mod Planned
 pub mod Ended
 pub mod Headline
 pub mod Covered
-pub mod Telling
 pub mod Allowed
 pub mod Frame
 pub mod Trying

@@ -1,5 +1,5 @@
 -- One part more is sent and its reply told, and the replies are all there in the end.
-use Rattle.std.proofs.Common.{◌≡◌, ◌<◌, inl, inr, ⊎_elim, ℕ, zero, suc, ◌+◌, List, [], ◌∷◌, false, cond, Option, Some, None, refl, sym, ap, ◌∙◌, arith, length, map, take, get_or, subst}
+use Rattle.std.proofs.Common.{◌≡◌, ◌<◌, inl, inr, ⊎_elim, ℕ, zero, suc, ◌+◌, List, [], ◌∷◌, false, cond, Option, Some, None, Ok, refl, sym, ap, ◌∙◌, arith, length, map, take, get_or, subst}
 use Rattle.std.specs.Prelude.{nat_eq, slice_get, slice_set}
 use Rattle.std.specs.List.{All, AllZip, zip}
 use Rattle.std.proofs.lemmas.List.Elements.{All-nil}
@@ -26,7 +26,8 @@ use Rattle.redis_cluster.proofs.Once.{times_more, times-take, names_once-apart}
 use Rattle.redis_cluster.specs.Ready.{Target}
 use Rattle.redis_cluster.specs.Sends.{IsLeft, SlotsTookEffect}
 use Rattle.redis_cluster.proofs.Constructors.{same_some}
-use Rattle.redis_cluster.proofs.Told.{same_told}
+use Rattle.redis_combiners.specs.Answers.{values_told}
+use Rattle.redis_cluster.proofs.Told.{Told, same_told}
 
 -- the slot of a route, and where its part goes, which is that of the slot
 pub record RouteTarget (registered : Registrations) (command : MultiKey) (slots : List ℕ) (nodes : List Address) (parts : List (List (List ℕ))) (number : ℕ) : Type 0 where
@@ -65,8 +66,8 @@ set_there (y ∷ xs) zero (suc j) x apart = refl
 set_there (y ∷ xs) (suc k) zero x apart = refl
 set_there (y ∷ xs) (suc k) (suc j) x apart = set_there xs k j x (grind (arith, nat_tests))
 
--- no reply yet
-abbrev untold : {X : Type 0} → X → Option Value
+-- no answer yet
+abbrev untold : {X : Type 0} → X → Told
 untold x = None
 
 -- before the first answer no reply is told
@@ -83,75 +84,75 @@ not_yet routes order count names within =
     omega (arith, more, times-take k order (count + 1), names_once-apart routes order names k)
 
 -- the reply to a route was told, and is this one
-abbrev pub IsTold : List (Option Value) → ℕ → Reply → Type 0
-IsTold replies number reply = (value : Value) × (slice_get replies number ≡ Some (Some value)) × (view value ≡ reply)
+abbrev pub IsTold : List Told → ℕ → Reply → Type 0
+IsTold replies number reply = (value : Value) × (slice_get replies number ≡ Some (Some (Ok value))) × (view value ≡ reply)
 
 -- the replies of the first routes of an order were told
-abbrev pub AreTold : List (Option Value) → List ℕ → List ℕ → ℕ → (ℕ → Reply) → Type 0
+abbrev pub AreTold : List Told → List ℕ → List ℕ → ℕ → (ℕ → Reply) → Type 0
 AreTold replies slots order count reply_of = (number slot : ℕ) → slice_get slots number ≡ Some slot → 0 < times number (take count order) → IsTold replies number (reply_of slot)
 
 -- and some reply to each of them, whatever it is
-abbrev pub AreSomeTold : List (Option Value) → List ℕ → ℕ → ℕ → Type 0
-AreSomeTold replies order count routes = (number : ℕ) → number < routes → 0 < times number (take count order) → (value : Value) × (slice_get replies number ≡ Some (Some value))
+abbrev pub AreSomeTold : List Told → List ℕ → ℕ → ℕ → Type 0
+AreSomeTold replies order count routes = (number : ℕ) → number < routes → 0 < times number (take count order) → (value : Value) × (slice_get replies number ≡ Some (Some (Ok value)))
 
 -- and may be what came
-pub record AreGivenSo (old new : List Reply → Type 0) (replies : List (Option Value)) (sent : List ℕ) : Type 0 where
+pub record AreGivenSo (old new : List Reply → Type 0) (replies : List Told) (sent : List ℕ) : Type 0 where
   pub values : List Value
-  pub told : in_order replies sent ≡ map Some values
+  pub told : in_order replies sent ≡ values_told values
   pub gave : (before : List Reply) → old before → new (before ++ map view values)
 
 -- and no other
-abbrev pub AreUntold : List (Option Value) → List ℕ → ℕ → ℕ → Type 0
+abbrev pub AreUntold : List Told → List ℕ → ℕ → ℕ → Type 0
 AreUntold replies order count routes = (number : ℕ) → number < routes → times number (take count order) ≡ 0 → slice_get replies number ≡ Some None
 
-module _ (replies : List (Option Value)) (slots order : List ℕ) (count number : ℕ) (within : count < length order) (is : number ≡ get_or order count 0) (room : number < length replies) where
+module _ (replies : List Told) (slots order : List ℕ) (count number : ℕ) (within : count < length order) (is : number ≡ get_or order count 0) (room : number < length replies) where
   more_at : (other : ℕ) → times other (take (count + 1) order) ≡ times other (take count order) + cond (nat_eq other number) 1 0
   more_at other = times_more other order count 0 within ∙ ap (λ k. times other (take count order) + cond (nat_eq other k) 1 0) (sym is)
 
   pub told_more : (reply_of : ℕ → Reply) (slot : ℕ) (value : Value) → slice_get slots number ≡ Some slot → view value ≡ reply_of slot
-      → AreTold replies slots order count reply_of → AreTold (slice_set replies number (Some value)) slots order (count + 1) reply_of
+      → AreTold replies slots order count reply_of → AreTold (slice_set replies number (Some (Ok value))) slots order (count + 1) reply_of
   told_more reply_of slot value at says before other own own_at named =
       by_test (nat_eq other number)
       (λ same.
       let e : other ≡ number = eqb-true other number same in
       let own_is : slot ≡ own = same_some slot own (sym at ∙ ap (slice_get slots) (sym e) ∙ own_at) in
-      (value, ap (slice_get (slice_set replies number (Some value))) e ∙ set_here replies number (Some value) room, says ∙ ap reply_of own_is))
+      (value, ap (slice_get (slice_set replies number (Some (Ok value)))) e ∙ set_here replies number (Some (Ok value)) room, says ∙ ap reply_of own_is))
       (λ apart.
       let as_often : times other (take (count + 1) order) ≡ times other (take count order) + 0 = more_at other ∙ ap (λ b. times other (take count order) + cond b 1 0) apart in
       let was : IsTold replies other (reply_of own) = before other own own_at (omega arith) in
-      (was.0, set_there replies number other (Some value) apart ∙ was.1, was.2))
+      (was.0, set_there replies number other (Some (Ok value)) apart ∙ was.1, was.2))
 
-  pub some_told_more : (routes : ℕ) (value : Value) → AreSomeTold replies order count routes → AreSomeTold (slice_set replies number (Some value)) order (count + 1) routes
+  pub some_told_more : (routes : ℕ) (value : Value) → AreSomeTold replies order count routes → AreSomeTold (slice_set replies number (Some (Ok value))) order (count + 1) routes
   some_told_more routes value before other inside named =
       by_test (nat_eq other number)
       (λ same.
       let e : other ≡ number = eqb-true other number same in
-      (value, ap (slice_get (slice_set replies number (Some value))) e ∙ set_here replies number (Some value) room))
+      (value, ap (slice_get (slice_set replies number (Some (Ok value)))) e ∙ set_here replies number (Some (Ok value)) room))
       (λ apart.
       let as_often : times other (take (count + 1) order) ≡ times other (take count order) + 0 = more_at other ∙ ap (λ b. times other (take count order) + cond b 1 0) apart in
-      let was : (old : Value) × (slice_get replies other ≡ Some (Some old)) = before other inside (omega arith) in
-      (was.0, set_there replies number other (Some value) apart ∙ was.1))
+      let was : (old : Value) × (slice_get replies other ≡ Some (Some (Ok old))) = before other inside (omega arith) in
+      (was.0, set_there replies number other (Some (Ok value)) apart ∙ was.1))
 
-  pub untold_less : (routes : ℕ) (value : Value) → AreUntold replies order count routes → AreUntold (slice_set replies number (Some value)) order (count + 1) routes
+  pub untold_less : (routes : ℕ) (value : Value) → AreUntold replies order count routes → AreUntold (slice_set replies number (Some (Ok value))) order (count + 1) routes
   untold_less routes value before other inside none =
       by_test (nat_eq other number)
       (λ same. absurd (let more : times other (take (count + 1) order) ≡ times other (take count order) + 1 = more_at other ∙ ap (λ b. times other (take count order) + cond b 1 0) same in omega arith))
       (λ apart.
       let as_often : times other (take (count + 1) order) ≡ times other (take count order) + 0 = more_at other ∙ ap (λ b. times other (take count order) + cond b 1 0) apart in
-      set_there replies number other (Some value) apart ∙ before other inside (omega arith))
+      set_there replies number other (Some (Ok value)) apart ∙ before other inside (omega arith))
 
 -- where each reply was told, they are a list of replies
-pub all_told : (replies : List (Option Value)) (slots : List ℕ) (reply_of : ℕ → Reply) → length replies ≡ length slots
+pub all_told : (replies : List Told) (slots : List ℕ) (reply_of : ℕ → Reply) → length replies ≡ length slots
     → ((number slot : ℕ) → slice_get slots number ≡ Some slot → IsTold replies number (reply_of slot))
-    → (values : List Value) × (replies ≡ map Some values) × (map view values ≡ map reply_of slots)
+    → (values : List Value) × (replies ≡ values_told values) × (map view values ≡ map reply_of slots)
 all_told [] [] reply_of many each = ([], refl, refl)
 all_told [] (s ∷ slots) reply_of many each = absurd (omega arith)
 all_told (r ∷ replies) [] reply_of many each = absurd (omega arith)
 all_told (r ∷ replies) (s ∷ slots) reply_of many each =
     let first : IsTold (r ∷ replies) 0 (reply_of s) = each 0 s refl in
     let rest = all_told replies slots reply_of (omega arith) (λ number slot at. each (suc number) slot at) in
-    let first_is : r ≡ Some first.0 = same_some r (Some first.0) first.1 in
-    (first.0 ∷ rest.0, ap (λ o. o ∷ replies) first_is ∙ ap (λ os. Some first.0 ∷ os) rest.1, ap (λ v. v ∷ map view rest.0) first.2 ∙ ap (λ vs. reply_of s ∷ vs) rest.2)
+    let first_is : r ≡ Some (Ok first.0) = same_some r (Some (Ok first.0)) first.1 in
+    (first.0 ∷ rest.0, ap (λ o. o ∷ replies) first_is ∙ ap (λ os. Some (Ok first.0) ∷ os) rest.1, ap (λ v. v ∷ map view rest.0) first.2 ∙ ap (λ vs. reply_of s ∷ vs) rest.2)
 
 -- what is put at a place that is not named changes nothing that is
 set_unnamed : {X : Type 0} (xs : List X) (k : ℕ) (x : X) (sent : List ℕ) → times k sent ≡ 0 → in_order (slice_set xs k x) sent ≡ in_order xs sent
@@ -166,25 +167,25 @@ set_unnamed xs k x (j ∷ sent) none =
     ∙ ap (λ ys. option_to_list (slice_get xs j) ++ ys) (set_unnamed xs k x sent rest))
 
 -- one reply more came
-pub given_more : (old mid new : List Reply → Type 0) (replies : List (Option Value)) (order : List ℕ) (i k : ℕ) (value : Value) → i < length order → k ≡ get_or order i 0 → k < length replies → times k (take i order) ≡ 0
-    → ((before : List Reply) → mid before → new (before ++ view value ∷ [])) → AreGivenSo old mid replies (take i order) → AreGivenSo old new (slice_set replies k (Some value)) (take (i + 1) order)
-given_more old mid new replies order i k value inside is room none came so = grind (arith, in_order_more (slice_set replies k (Some value)) order i k (Some value) inside is (set_here replies k (Some value) room), set_here replies k (Some value) room, set_unnamed replies k (Some value) (take i order) none, map_push Some so.values value, map_push view so.values value, append_assoc)
+pub given_more : (old mid new : List Reply → Type 0) (replies : List Told) (order : List ℕ) (i k : ℕ) (value : Value) → i < length order → k ≡ get_or order i 0 → k < length replies → times k (take i order) ≡ 0
+    → ((before : List Reply) → mid before → new (before ++ view value ∷ [])) → AreGivenSo old mid replies (take i order) → AreGivenSo old new (slice_set replies k (Some (Ok value))) (take (i + 1) order)
+given_more old mid new replies order i k value inside is room none came so = grind (arith, in_order_more (slice_set replies k (Some (Ok value))) order i k (Some (Ok value)) inside is (set_here replies k (Some (Ok value)) room), set_here replies k (Some (Ok value)) room, set_unnamed replies k (Some (Ok value)) (take i order) none, map_push {Y = Told} (λ v. Some (Ok v)) so.values value, map_push view so.values value, append_assoc)
 
 -- where all were told, all came
-pub given_all : (old new : List Reply → Type 0) (replies : List (Option Value)) (order : List ℕ) (values : List Value) → replies ≡ map Some values → AreGivenSo old new replies order
+pub given_all : (old new : List Reply → Type 0) (replies : List Told) (order : List ℕ) (values : List Value) → replies ≡ values_told values → AreGivenSo old new replies order
     → (before : List Reply) → old before → new (before ++ in_order (map view values) order)
 given_all old new replies order values all so before was =
     let same : so.values ≡ in_order values order =
-    same_told so.values (in_order values order) (sym so.told ∙ ap (λ os. in_order os order) all ∙ sym (map-in_order Some values order)) in
+    same_told so.values (in_order values order) (sym so.told ∙ ap (λ os. in_order os order) all ∙ sym (map-in_order (λ v. Some (Ok v)) values order)) in
     subst new (ap (λ vs. before ++ vs) (ap (map view) same ∙ map-in_order view values order)) (so.gave before was)
 
-pub all_some_told : (replies : List (Option Value)) → ((number : ℕ) → number < length replies → (value : Value) × (slice_get replies number ≡ Some (Some value))) → (values : List Value) × (replies ≡ map Some values)
+pub all_some_told : (replies : List Told) → ((number : ℕ) → number < length replies → (value : Value) × (slice_get replies number ≡ Some (Some (Ok value)))) → (values : List Value) × (replies ≡ values_told values)
 all_some_told [] each = ([], refl)
 all_some_told (r ∷ replies) each =
-    let first : (value : Value) × (slice_get (r ∷ replies) 0 ≡ Some (Some value)) = each 0 (omega arith) in
+    let first : (value : Value) × (slice_get (r ∷ replies) 0 ≡ Some (Some (Ok value))) = each 0 (omega arith) in
     let rest = all_some_told replies (λ number inside. each (suc number) (omega arith)) in
-    let first_is : r ≡ Some first.0 = same_some r (Some first.0) first.1 in
-    (first.0 ∷ rest.0, ap (λ o. o ∷ replies) first_is ∙ ap (λ os. Some first.0 ∷ os) rest.1)
+    let first_is : r ≡ Some (Ok first.0) = same_some r (Some (Ok first.0)) first.1 in
+    (first.0 ∷ rest.0, ap (λ o. o ∷ replies) first_is ∙ ap (λ os. Some (Ok first.0) ∷ os) rest.1)
 
 -- the keyspace is that of the parts before it, or where the reply was lost that of one part more
 pub left_at : {C : Type 0} (step : Step C) (act : Act C) (tuples : List KeyTuple) (part : MultiKey) (slots more : List ℕ) (old mid new : Keyspace C) (ending : Option Ending) → mid ≡ after act (tuples_of_slots slots tuples) old

@@ -1,53 +1,48 @@
--- Which replies of a plan were told.
-use Rattle.std.proofs.Common.{◌≡◌, List, [], ◌∷◌, Bool, true, false, Some, map, length, refl, sym, ap, ◌∙◌, arith}
-use Rattle.std.specs.Prelude.{is_none}
-use Rattle.std.specs.List.{list_all, list_any}
+-- Answers of which none is missing.
+use Rattle.std.proofs.Common.{◌≡◌, List, [], ◌∷◌, ◌++◌, Some, None, Ok, Err, false, suc, length, map, refl, ap, ◌∙◌}
+use Rattle.std.specs.Prelude.{Option, Result, is_none}
+use Rattle.std.specs.List.{list_any}
+use Rattle.resp_core.specs.ErrorParts.{ErrorParts}
+use Rattle.resp_core.specs.View.{view}
 use Rattle.resp_core.specs.declared.value.Value.{Value}
-use Rattle.redis_cluster.specs.Plan.{marked_replies}
+use Rattle.redis_combiners.specs.Answers.{answers_given, first_error, values_in, values_told}
 
--- whether all flags are set
-abbrev pub all_set : List Bool → Bool
-all_set flags = list_all (λ flag. flag) flags
+abbrev pub Told : Type 0
+Told = Option (Result Value ErrorParts)
 
--- where all flags are set, each reply was told
-pub all_told : (flags : List Bool) (replies : List Value) → length flags ≡ length replies → all_set flags ≡ true → marked_replies flags replies ≡ map Some replies
-all_told [] [] long set = refl
-all_told [] (reply ∷ replies) long set = absurd (omega arith)
-all_told (flag ∷ flags) [] long set = absurd (omega arith)
-all_told (true ∷ flags) (reply ∷ replies) long set = ap (λ rest. Some reply ∷ rest) (all_told flags replies (omega arith) set)
-all_told (false ∷ flags) (reply ∷ replies) long set = absurd (cc)
-
--- where one is not, a reply is missing
-pub one_missing : (flags : List Bool) (replies : List Value) → length flags ≡ length replies → all_set flags ≡ false → list_any is_none (marked_replies flags replies) ≡ true
-one_missing [] replies long set = absurd (cc)
-one_missing (flag ∷ flags) [] long set = absurd (omega arith)
-one_missing (true ∷ flags) (reply ∷ replies) long set = one_missing flags replies (omega arith) set
-one_missing (false ∷ flags) (reply ∷ replies) long set = refl
-
--- of replies that are there none is missing
-pub none_missing : (replies : List Value) → list_any is_none (map Some replies) ≡ false
+-- of values none is missing
+pub none_missing : (values : List Value) → list_any is_none (values_told values) ≡ false
 none_missing [] = refl
-none_missing (reply ∷ replies) = none_missing replies
+none_missing (value ∷ values) = none_missing values
+
+-- they are as many
+pub many_told : (values : List Value) → length (values_told values) ≡ length values
+many_told [] = refl
+many_told (value ∷ values) = ap suc (many_told values)
 
 -- they are known from what was told
-pub same_told : (xs ys : List Value) → map Some xs ≡ map Some ys → xs ≡ ys
+pub same_told : (xs ys : List Value) → values_told xs ≡ values_told ys → xs ≡ ys
 same_told [] [] e = refl
 same_told [] (y ∷ ys) e = absurd (cc)
 same_told (x ∷ xs) [] e = absurd (cc)
 same_told (x ∷ xs) (y ∷ ys) e =
-    let rest : map Some xs ≡ map Some ys = cc in
+    let rest : values_told xs ≡ values_told ys = cc in
     let first : x ≡ y = cc in
     ap (λ z. z ∷ xs) first ∙ ap (λ zs. y ∷ zs) (same_told xs ys rest)
 
--- each route has room for a reply
--- where one was not told, they are not all there
-pub not_all_told : (flags : List Bool) (replies values : List Value) → length flags ≡ length replies → all_set flags ≡ false → marked_replies flags replies ≡ map Some values → ⊥
-not_all_told flags replies values long set is = let missing : true ≡ false = sym (one_missing flags replies long set) ∙ ap (list_any is_none) is ∙ none_missing values in cc
+-- the first error is behind them
+pub no_error_before : (values : List Value) (rest : List Told) → first_error (answers_given (values_told values ++ rest)) ≡ first_error (answers_given rest)
+no_error_before [] rest = refl
+no_error_before (value ∷ values) rest = no_error_before values rest
 
--- where all were told, none is missing
-pub none_untold : (flags : List Bool) (replies : List Value) → length flags ≡ length replies → all_set flags ≡ true → list_any is_none (marked_replies flags replies) ≡ true → ⊥
-none_untold flags replies long set missing = let none : true ≡ false = sym missing ∙ ap (list_any is_none) (all_told flags replies long set) ∙ none_missing replies in cc
+-- they are the values among the answers
+pub each_value : (values : List Value) → values_in (answers_given (values_told values)) ≡ map view values
+each_value [] = refl
+each_value (value ∷ values) = ap (λ vs. view value ∷ vs) (each_value values)
 
--- and they are these
-pub all_known : (flags : List Bool) (replies values : List Value) → length flags ≡ length replies → all_set flags ≡ true → marked_replies flags replies ≡ map Some values → replies ≡ values
-all_known flags replies values long set is = same_told replies values (sym (all_told flags replies long set) ∙ is)
+-- Each answer is a value, if none is an error.
+pub all_values : (told : List Told) → list_any is_none told ≡ false → first_error (answers_given told) ≡ None → (values : List Value) × (told ≡ values_told values)
+all_values [] all none = ([], refl)
+all_values (None ∷ told) all none = absurd (cc all)
+all_values (Some (Err error) ∷ told) all none = absurd (cc none)
+all_values (Some (Ok value) ∷ told) all none = let rest = all_values told all none in (value ∷ rest.0, ap (λ os. Some (Ok value) ∷ os) rest.1)

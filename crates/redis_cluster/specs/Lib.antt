@@ -3,6 +3,7 @@ pub use Rattle.cluster_slots.specs.Lists
 pub use Rattle.redis_routing.specs.Upper
 pub use Rattle.redis_combiners.specs.Aggregate
 pub use Rattle.redis_combiners.specs.AllItems
+pub use Rattle.redis_combiners.specs.Answers
 pub use Rattle.redis_combiners.specs.AtPlaces
 pub use Rattle.redis_combiners.specs.Bits
 pub use Rattle.redis_combiners.specs.ByPlaces

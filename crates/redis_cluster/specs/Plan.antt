@@ -1,7 +1,7 @@
 -- The plan of a multi-key command: a part for each of its routes, the node that it goes to,
--- and the reply to it.
-use Rattle.std.specs.Prelude.{◌≡◌, ℕ, Bool, cond, List, Option, None, Some, Result, map, length, ◌++◌}
-use Rattle.std.specs.List.{zip}
+-- and what its node answered.
+use Rattle.std.specs.Prelude.{◌≡◌, ℕ, List, Option, Some, Result, map, length, ◌++◌}
+use Rattle.resp_core.specs.ErrorParts.{ErrorParts}
 use Rattle.resp_core.specs.Reply.{Reply}
 use Rattle.resp_core.specs.View.{view}
 use Rattle.resp_core.specs.declared.error.ErrorKind.{ErrorKind}
@@ -10,6 +10,7 @@ use Rattle.cluster_slots.specs.Address.{Address}
 use Rattle.cluster_slots.specs.SlotRoute.{SlotRoute}
 use Rattle.redis_routing.specs.PresentArguments.{present_arguments}
 use Rattle.redis_routing.specs.Split.{Split, IsSplit, slots_of, split_part}
+use Rattle.redis_combiners.specs.Answers.{values_told}
 use Rattle.redis_cluster.specs.Joined.{IsOutcome}
 use Rattle.redis_cluster.specs.MultiKey.{KeyTuple, ReplyForm, form_by_policy}
 use Rattle.redis_cluster.specs.PlacedTuples.{tuples_of}
@@ -17,24 +18,20 @@ use Rattle.redis_cluster.specs.Orders.{in_order}
 use Rattle.redis_cluster.specs.SlotItems.{items_of_slot}
 use Rattle.redis_cluster.specs.Unsplit.{TupleResult, reply_by}
 
--- the command with its routes, and for each route its node, its part, and its reply, if the plan
--- has it
+-- the command with its routes, and for each route its node, its part, and what was answered to it,
+-- if the plan has that
 pub record Plan : Type 0 where
   pub split : Split
   pub nodes : List Address
   pub parts : List (List (List ℕ))
-  pub replies : List (Option Value)
+  pub answers : List (Option (Result Value ErrorParts))
 
--- each route has a node, its own part, and room for a reply
+-- each route has a node, its own part, and room for an answer
 pub record IsRoutedPlan (plan : Plan) : Type 0 where
   pub split : IsSplit plan.split
   pub nodes : length plan.nodes ≡ length plan.split.routes
   pub parts : map (map Some) plan.parts ≡ map (split_part plan.split) (slots_of plan.split.routes)
-  pub replies : length plan.replies ≡ length plan.split.routes
-
--- the replies that a plan has: each one with its mark set
-abbrev pub marked_replies : List Bool → List Value → List (Option Value)
-marked_replies marks replies = map (λ p. cond p.0 (Some p.1) None) (zip marks replies)
+  pub answers : length plan.answers ≡ length plan.split.routes
 
 -- the tuples of the command
 abbrev pub tuples_in_split : Split → List KeyTuple
@@ -58,19 +55,19 @@ pub record IsMadeOfParts (split : Split) (replies : List Reply)
   pub form_is : form_by_policy split.policy ≡ Some form
   pub outcome_is : IsOutcome (tuples_in_split split) (slots_of split.routes) replies form outcome
 
--- The plan has all replies, and these are they.
+-- Each part was answered by a value, and these are they.
 pub record ArePartReplies (plan : Plan) (form : ReplyForm) (results : List TupleResult)
     : Type 0 where
   pub replies : List Value
-  pub all_told : plan.replies ≡ map Some replies
+  pub all_told : plan.answers ≡ values_told replies
   pub answered : ArePartsAnswered plan.split form results (map view replies)
 
--- The plan has all replies. In the order in which they came, these may be what the nodes gave after
--- what they gave before.
+-- Each part was answered by a value. In the order in which they came, these may be what the nodes
+-- gave after what they gave before.
 pub record AreGiven (old new : List Reply → Type 0) (routes : List (SlotRoute × List ℕ))
-    (replies : List (Option Value)) (order : List ℕ) : Type 0 where
+    (answers : List (Option (Result Value ErrorParts))) (order : List ℕ) : Type 0 where
   pub values : List Value
-  pub all_told : replies ≡ map Some values
+  pub all_told : answers ≡ values_told values
   pub each : length values ≡ length routes
   pub gave : (before : List Reply) → old before → new (before ++ in_order (map view values) order)
 

@@ -163,7 +163,7 @@ pub(super) fn plan_in_order<'a, R: Routable, N: Nodes>(
         (request (R.args command.now) (names_of read_only.now (N.registered nodes.now))
         slot_map.now order.now) plan c) }
     ensures arguments { IfOk result (λ plan. plan.split.arguments ≡ R.args command.now) }
-    ensures untold { IfOk result (λ plan. plan.replies ≡ map (λ route. None) plan.split.routes) }
+    ensures untold { IfOk result (λ plan. plan.answers ≡ map (λ route. None) plan.split.routes) }
     ensures order { IfOk result (λ plan. NamesOnce (length plan.split.routes) order.now) }
     ensures some { IfOk result (λ plan. 0 < length plan.split.routes) }
     ensures early { IfErr result
@@ -207,8 +207,8 @@ pub fn drive_plan<R: Routable, N: Nodes>(
 ) -> Result<Value, DriveError>
     // It is of a complete command, as each plan that `SplitPlan::new` made,
     requires command { (c : MultiKey) × IsPlanOf (N.registered nodes.old) c plan }
-    // and no reply was given to it yet.
-    requires untold { plan.replies ≡ map (λ route. None) plan.split.routes }
+    // and no answer was told to it yet.
+    requires untold { plan.answers ≡ map (λ route. None) plan.split.routes }
     // Take any request that the plan is of, with this order and the names that the nodes registered.
     // Each part goes to the plan's own node of its route.
     ensures delivered { IfOk result (λ value.
@@ -277,7 +277,7 @@ pub(super) fn drive_tries<R: Routable, N: Nodes>(
     nodes: &mut N,
 ) -> Result<Value, DriveError>
     requires command { (c : MultiKey) × IsPlanOf (N.registered nodes.old) c plan }
-    requires untold { plan.replies ≡ map (λ route. None) plan.split.routes }
+    requires untold { plan.answers ≡ map (λ route. None) plan.split.routes }
     requires order { NamesOnce (length plan.split.routes) order.now }
     requires named { All (λ retry. IsSome retry.target) retries.old }
     ensures trace { OnOk result (SentInTurn (in_order (tries_with (targets plan.entry) retries.old)

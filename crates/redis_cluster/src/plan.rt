@@ -1,17 +1,19 @@
-ghost use Rattle.std.specs.Prelude.{◌≡◌, ◌≢◌, ◌<◌, ◌⊎◌, ℕ, List, true, Option, Some, None, is_none, Ok, Err, MatchResult, IfOk, OnOk, IfErr, length, map, option_map, slice_get, slice_set};
-ghost use Rattle.std.specs.List.{All, AllZip, list_all, list_any};
+ghost use Rattle.std.specs.Prelude.{◌≡◌, ◌≢◌, ◌<◌, ◌≤◌, ◌⊎◌, ℕ, List, [], true, false, Option, Some, None, is_none, Ok, Err, MatchResult, IfOk, OnOk, IfErr, length, map, option_map, slice_get, slice_set};
+ghost use Rattle.std.specs.List.{All, AllZip, list_any};
 ghost use Rattle.std.specs.Result.{IsErrAnd};
-ghost use Rattle.resp_core.specs.ErrorParts.{out_of_memory};
+ghost use Rattle.std.specs.Vec.{vec_capacity};
+ghost use Rattle.resp_core.specs.ErrorParts.{ErrorParts, out_of_memory};
 ghost use Rattle.resp_core.specs.declared.value.Value.{Value};
 ghost use Rattle.resp_core.specs.View.{view};
 ghost use Rattle.resp_core.specs.declared.error.ErrorKind.TheVariants.{Client};
 ghost use Rattle.cluster_map.specs.ReplyNode.{IsCovered};
 ghost use Rattle.cluster_map.specs.RouteNode.{IsRouteNode};
+ghost use Rattle.redis_combiners.specs.Answers.{answers_given, first_error, missing_answer, values_told};
 ghost use Rattle.redis_routing.specs.Command.{command_name};
 ghost use Rattle.redis_routing.specs.Names.{names_in};
 ghost use Rattle.redis_routing.specs.Registry.{Registrations};
 ghost use Rattle.redis_routing.specs.Complete.{multi_slot_routes, pattern_by_name};
-ghost use Rattle.redis_routing.specs.Split.{policy_by_name, split_part, slots_of};
+ghost use Rattle.redis_routing.specs.Split.{IsSplit, policy_by_name, split_part, slots_of};
 ghost use Rattle.redis_routing.specs.RoutingInfo.{route_lists};
 ghost use Rattle.redis_cluster.specs.Amid.{IsReplyAmid};
 ghost use Rattle.redis_cluster.specs.MultiKey.{MultiKey, ReplyForm, list, form_by_policy, part_by_slot};
@@ -25,6 +27,7 @@ ghost use Rattle.redis_cluster.specs.Ready.{IsPlanFor, IsPlanOf};
 use crate::fault::PlanFault;
 use cluster_map::{ReadRoutingStrategy, SlotMap};
 use cluster_slots::{NodeAddress, Route};
+use redis_combiners::answers::{is_untold, missing, no_answers, tell_at};
 use redis_combiners::{aggregate, combine_and_sort_array_results};
 use redis_routing::{Names, ResponsePolicy, Routable, SplitCommand};
 use resp_core::{Cmd, ErrorKind, RedisError, RedisResult, Value};
@@ -32,34 +35,34 @@ use std::alloc::{AllocError, Global};
 use std::marker::Model;
 
 /// A multi-key command, ready to be sent part by part. For each of its routes it has the node, the
-/// part, and room for the reply. Once it has each reply, it makes the one reply of the command.
+/// part, and room for what the node answers. Once it has each answer, it makes the one reply of the
+/// command.
 ///
 /// `drive` is a loop over it. A client with connections of its own sends the parts itself, at once
-/// or in any order, and gives the plan each reply as it comes. Never give it an error as a reply:
-/// if parts answer `OK`, the reply of route 0 is the whole reply, whatever the others are.
+/// or in any order, and gives the plan each answer as it comes: a value, or an error of the server.
 ///
 /// ```
-/// for (number, reply) in replies.into_iter().enumerate() {
-///     if plan.tell(number, reply).is_err() {
-///         return Err(not_combined("an answer to no part"));
-///     }
+/// for (number, answer) in answers.into_iter().enumerate() {
+///     let _ = plan.tell(number, answer);
 /// }
-/// plan.combine(alloc).map_err(BatchError::NotCombined)
+/// plan.combine(alloc).map_err(BatchError::NotAnswered)
 /// ```
 #[derive(Drop)]
 pub struct SplitPlan<'a, R: Routable> {
     split: SplitCommand<'a, R>,
     nodes: Vec<&'a NodeAddress>,
     parts: Vec<Cmd>,
-    replies: Vec<Value>,
-    answered: Vec<bool>,
+    answers: Vec<Option<RedisResult<Value>>>,
+    // For the values of the answers, so that `combine` takes none for it.
+    room: Vec<Value>,
 }
 
 impl<'a, R: Routable> Model for SplitPlan<'a, R> {
-    ghost use Rattle.std.specs.Prelude.{◌≡◌, length, map};
+    ghost use Rattle.std.specs.Prelude.{◌≡◌, ◌≤◌, [], length, map};
     ghost use Rattle.std.specs.Coded.{codes};
+    ghost use Rattle.std.specs.Vec.{vec_capacity};
     ghost use Rattle.resp_core.specs.contracts.value.Value as value;
-    ghost use Rattle.redis_cluster.specs.Plan.{Plan, IsRoutedPlan, marked_replies};
+    ghost use Rattle.redis_cluster.specs.Plan.{Plan, IsRoutedPlan};
 
     ghost Value = { Plan };
 
@@ -69,16 +72,16 @@ impl<'a, R: Routable> Model for SplitPlan<'a, R> {
       split = p.split;
       nodes = map (λ n. n.now) p.nodes.items;
       parts = p.parts.items;
-      replies = marked_replies p.answered.items p.replies.items;
+      answers = p.answers.items;
     } };
 
     ghost invariant = { λ p. IsRoutedPlan (record {
       split = p.split;
       nodes = map (λ n. n.now) p.nodes.items;
       parts = p.parts.items;
-      replies = marked_replies p.answered.items p.replies.items;
+      answers = p.answers.items;
     })
-        × (length p.answered.items ≡ length p.replies.items) };
+        × (p.room.items ≡ []) × (length p.answers.items ≤ vec_capacity p.room) };
 }
 
 impl<'a, R: Routable> SplitPlan<'a, R> {
@@ -126,7 +129,7 @@ impl<'a, R: Routable> SplitPlan<'a, R> {
         ensures covered { IfOk result
             (λ plan. All (λ route. IsCovered slot_map.now route.0.slot) plan.split.routes) }
         ensures untold { IfOk result
-            (λ plan. plan.replies ≡ map (λ route. None) plan.split.routes) }
+            (λ plan. plan.answers ≡ map (λ route. None) plan.split.routes) }
         // `drive_plan` takes it over nodes with the same registered names.
         ensures command { IfOk result (λ plan. (registered : Registrations)
             → names.entry.registry.now ≡ registered → (c : MultiKey) × IsPlanOf registered c plan) }
@@ -140,20 +143,50 @@ impl<'a, R: Routable> SplitPlan<'a, R> {
         ensures not_split { IfErr result (λ fault. fault ≡ PlanFault.NotMultiKey
             → multi_slot_routes (names_in names.entry) (R.args command.now) ≡ None) }
     {
-        let Some(split) = SplitCommand::new(alloc, command, names)? else {
-            return Err(PlanFault::NotMultiKey);
-        };
+        match SplitCommand::new(alloc, command, names)? {
+            Some(split) => Self::from_split(alloc, split, slot_map, strategy, pick),
+            None => Err(PlanFault::NotMultiKey),
+        }
+    }
+
+    /// Plans a command that is split already, such as `Routed::new` has it.
+    ///
+    /// # Errors
+    ///
+    /// `NotCovered` if a slot of a key has no node, the first in the order of routes. `Memory` if
+    /// memory ran out.
+    pub fn from_split(
+        alloc: Global,
+        split: SplitCommand<'a, R>,
+        slot_map: &'a SlotMap,
+        strategy: Option<&dyn ReadRoutingStrategy>,
+        pick: usize,
+    ) -> Result<Self, PlanFault>
+        ensures split { IfOk result (λ plan. plan.split ≡ split.entry) }
+        ensures nodes { IfOk result
+            (λ plan. AllZip (λ route address.
+            IsRouteNode strategy.entry (λ s. picks s.now) slot_map.now pick route.0 address)
+            plan.split.routes plan.nodes) }
+        ensures plan { IfOk result IsRoutedPlan }
+        ensures whole { IsSplit split.entry }
+        ensures untold { IfOk result
+            (λ plan. plan.answers ≡ map (λ route. None) plan.split.routes) }
+        ensures fault { IfErr result
+            (λ fault. (fault ≡ PlanFault.Memory)
+            ⊎ ((slot : ℕ) × (fault ≡ PlanFault.NotCovered slot)
+            × IsFirstUncovered slot_map.now (map (λ r. r.0) split.entry.routes) slot)) }
+    {
         let nodes = nodes_of(alloc, slot_map, split.routes(), strategy, pick)?;
         let parts = parts_of(alloc, &split)?;
         let count = split.len();
-        let replies = no_replies(alloc, count)?;
-        let answered = vec![in alloc; false; count]?;
+        let answers = no_answers(alloc, count)?;
+        let room = Vec::with_capacity(alloc, count)?;
         Ok(SplitPlan {
             split,
             nodes,
             parts,
-            replies,
-            answered,
+            answers,
+            room,
         })
     }
 
@@ -189,47 +222,46 @@ impl<'a, R: Routable> SplitPlan<'a, R> {
         self.parts.get(number)
     }
 
-    /// Takes the reply to the part of this route. No memory is taken.
+    /// Takes what was answered to the part of this route: a value, or an error of the server. No
+    /// memory is taken.
     ///
     /// # Errors
     ///
-    /// Gives the reply back if there is no such route, or if it has a reply.
-    pub fn tell(&mut self, number: usize, reply: Value) -> Result<(), Value>
-        ensures told { OnOk result ((slice_get self.old.replies number ≡ Some None)
+    /// Gives the answer back if there is no such route, or if it has an answer.
+    pub fn tell(
+        &mut self,
+        number: usize,
+        answer: RedisResult<Value>,
+    ) -> Result<(), RedisResult<Value>>
+        ensures told { OnOk result ((slice_get self.old.answers number ≡ Some None)
             × (self.new ≡ record {
               split = self.old.split;
               nodes = self.old.nodes;
               parts = self.old.parts;
-              replies = slice_set self.old.replies number (Some reply);
+              answers = slice_set self.old.answers number (Some answer);
             })) }
         ensures refused { IfErr result
-            (λ back. (back ≡ reply) × (self.new ≡ self.old)
-            × (slice_get self.old.replies number ≡ Some None → ⊥)) }
+            (λ back. (back ≡ answer) × (self.new ≡ self.old)
+            × (slice_get self.old.answers number ≡ Some None → ⊥)) }
     {
-        if number >= self.answered.len() || self.answered[number] {
-            return Err(reply);
-        }
-        self.answered[number] = true;
-        self.replies[number] = reply;
-        Ok(())
+        tell_at(&mut self.answers, number, answer)
     }
 
-    /// The one reply of the command, once the plan has each reply. Counts are added up, and lists
+    /// The one reply of the command, once the plan has each answer. Counts are added up, and lists
     /// are put in the order of the command's keys. Of commands that only succeed it is the reply of
-    /// route 0.
+    /// route 0. If an answer is an error, it is the first error in the order of the routes.
     ///
     /// # Errors
     ///
-    /// `Client` if a reply is missing. Else what the combiners refuse. They refuse nothing if the
-    /// replies are those to parts of one command, and memory runs out for lists alone. The plan and
-    /// its replies are used up then, too.
+    /// An error that a server answered. `Client` if an answer is missing. Else what the combiners
+    /// refuse. They refuse nothing if the replies are those to parts of one command, and memory runs
+    /// out for lists alone. The plan and its answers are used up then, too.
     pub fn combine(self, alloc: Global) -> RedisResult<Value>
         ensures unsplit { (form : ReplyForm) (results : List TupleResult)
             → ArePartReplies self.entry form results → MatchResult result
             (λ value. view value ≡ reply_by form results)
             (λ error. (error ≡ out_of_memory) × (form ≡ list)) }
-        ensures joined { (replies : List Value) → self.entry.replies ≡ map Some replies
-            → MatchResult result
+        ensures joined { (replies : List Value) → self.entry.answers ≡ values_told replies → MatchResult result
             (λ value. IsMadeOfParts self.entry.split (map view replies) (Ok (view value)))
             (λ error. ((error ≡ out_of_memory)
             × (self.entry.split.policy ≡ ResponsePolicy.CombineArrays))
@@ -237,30 +269,44 @@ impl<'a, R: Routable> SplitPlan<'a, R> {
         // Others may write the same keys meanwhile, as for `drive`. Each key holds bytes here, such as
         // `DUMP` gives.
         ensures amid { (registered : Registrations) (c : MultiKey) (replies : List Value)
-            → IsPlanOf registered c self.entry → self.entry.replies ≡ map Some replies
+            → IsPlanOf registered c self.entry → self.entry.answers ≡ values_told replies
             → IfOk result (λ value. IsReplyAmid (List ℕ) c (map view replies) (view value)) }
-        ensures untold { list_any is_none self.entry.replies ≡ true
-            → IsErrAnd result (λ error. error.kind ≡ Client) }
+        // An error that a server answered is the reply, the first in the order of the routes.
+        ensures refused { (error : ErrorParts) → list_any is_none self.entry.answers ≡ false
+            → first_error (answers_given self.entry.answers) ≡ Some error → result ≡ Err error }
+        ensures untold { list_any is_none self.entry.answers ≡ true → result ≡ Err missing_answer }
     {
         let SplitPlan {
             split,
             nodes: _,
             parts: _,
-            replies,
-            answered,
+            answers,
+            room,
         } = self;
-        if !all_set(&answered) {
-            return Err(RedisError::from((ErrorKind::Client, "a part has no reply")));
+        if is_untold(&answers) {
+            return Err(missing());
         }
+        let replies = values_in(answers, room)?;
         join(alloc, &split, replies)
     }
 }
 
-/// Whether all flags are set.
-fn all_set(flags: &[bool]) -> bool
-    ensures { result ≡ list_all (λ flag. flag) flags.now }
+/// The values of answers of which none is missing, put into a list with room for them. Or the first
+/// error.
+fn values_in(answers: Vec<Option<RedisResult<Value>>>, room: Vec<Value>) -> RedisResult<Vec<Value>>
+    requires told { list_any is_none answers.items ≡ false }
+    requires empty { room.items ≡ [] }
+    requires room { length answers.items ≤ vec_capacity room }
+    ensures values { IfOk result (λ values. answers.items ≡ values_told values.items) }
+    ensures error { IfErr result (λ error. first_error (answers_given answers.items) ≡ Some error) }
 {
-    flags.iter().all(|flag| *flag)
+    let mut values = room;
+    for answer in answers {
+        if let Some(answer) = answer {
+            values.push_reserved(answer?);
+        }
+    }
+    Ok(values)
 }
 
 /// The one reply to a split command, by those to its parts.
@@ -289,10 +335,7 @@ fn join<R: Routable>(
 }
 
 /// The one reply to a split command, by those to its parts, one for each route in the order of the
-/// routes. `SplitPlan::combine` does the same with the replies of a plan.
-///
-/// Never give an error as a reply: if parts answer `OK`, the reply of route 0 is the whole reply,
-/// whatever the others are.
+/// routes. `SplitPlan::combine` does the same with the answers to a plan.
 ///
 /// # Errors
 ///
@@ -370,15 +413,4 @@ fn parts_of<R: Routable>(alloc: Global, split: &SplitCommand<'_, R>) -> Result<V
         parts.push(split.part(alloc, number)?)?;
     }
     Ok(parts)
-}
-
-/// Room for `count` replies.
-fn no_replies(alloc: Global, count: usize) -> Result<Vec<Value>, AllocError>
-    ensures { IfOk result (λ replies. length replies.items ≡ count) }
-{
-    let mut replies = Vec::with_capacity(alloc, count)?;
-    for _ in 0..count {
-        replies.push(Value::Nil)?;
-    }
-    Ok(replies)
 }

@@ -1,4 +1,4 @@
-ghost use Rattle.std.specs.Prelude.{◌≡◌, ◌<◌, ℕ, Some, None, false, nat_eq, map, length, slice_get, slice_set, IsSome, IfOk, OnOk, IfErr};
+ghost use Rattle.std.specs.Prelude.{◌≡◌, ◌<◌, ℕ, Some, None, Ok, false, nat_eq, map, length, slice_get, slice_set, IsSome, IfOk, OnOk, IfErr};
 ghost use Rattle.std.specs.List.{All};
 ghost use Rattle.redis_cluster.specs.Frame.{SameNodes};
 ghost use Rattle.redis_cluster.specs.MultiKey.{MultiKey, IsPart};
@@ -28,12 +28,12 @@ pub(super) fn send_all<R: Routable, N: Nodes>(
     nodes: &mut N,
 ) -> Result<(), DriveError>
     requires command { (command : MultiKey) × IsPlanOf (N.registered nodes.old) command plan.old }
-    requires untold { plan.old.replies ≡ map (λ route. None) plan.old.split.routes }
+    requires untold { plan.old.answers ≡ map (λ route. None) plan.old.split.routes }
     requires order { NamesOnce (length plan.old.split.routes) order.now }
     requires named { All (λ retry. IsSome retry.target) retries.old }
     ensures plan { OnOk result (plan.new.split ≡ plan.old.split) }
     ensures told { OnOk result (AreGiven (N.gave nodes.old) (N.gave nodes.new)
-        plan.old.split.routes plan.new.replies order.now) }
+        plan.old.split.routes plan.new.answers order.now) }
     ensures replies { OnOk result ((command : MultiKey)
         → IsPlanOf (N.registered nodes.old) command plan.old
         → N.kept nodes.new
@@ -105,17 +105,17 @@ fn send_part<R: Routable, N: Nodes>(
     send_once(part, node, nodes)
 }
 
-/// Tells the reply to a part that has none yet.
+/// Tells the reply to a part that has no answer yet.
 fn tell_first<R: Routable>(plan: &mut SplitPlan<'_, R>, number: usize, reply: Value)
-    requires { slice_get plan.old.replies number ≡ Some None }
+    requires { slice_get plan.old.answers number ≡ Some None }
     ensures { plan.new ≡ record {
       split = plan.old.split;
       nodes = plan.old.nodes;
       parts = plan.old.parts;
-      replies = slice_set plan.old.replies number (Some reply);
+      answers = slice_set plan.old.answers number (Some (Ok reply));
     } }
 {
-    match plan.tell(number, reply) {
+    match plan.tell(number, Ok(reply)) {
         Ok(()) => {}
         Err(_) => unreachable!(),
     }

@@ -4,6 +4,7 @@ pub use Rattle.resp_core.specs.Reply
 pub use Rattle.resp_core.specs.View
 pub mod Aggregate
 pub mod AllItems
+pub mod Answers
 pub mod AtPlaces
 pub mod Bits
 pub mod ByPlaces

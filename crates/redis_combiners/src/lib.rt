@@ -1,6 +1,7 @@
 //! Combines the replies of several nodes into one.
 #![tactic(auto)]
 
+pub mod answers;
 mod arrange;
 mod arrays;
 mod fit;

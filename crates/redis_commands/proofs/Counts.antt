@@ -17,7 +17,7 @@ use Rattle.cluster_map.specs.EachOnce.{primaries_in}
 use Rattle.cluster_map.specs.RangeMap.{RangeEntry}
 use Rattle.cluster_map.specs.SlotNodes.{SlotNodes}
 use Rattle.redis_routing.specs.declared.policy.ResponsePolicy.TheVariants.{Aggregate}
-use Rattle.redis_commands.specs.Answers.{values_in, first_error}
+use Rattle.redis_combiners.specs.Answers.{values_in, first_error}
 use Rattle.redis_commands.specs.Policy.{or_refused, reply_by_policy}
 use Rattle.redis_commands.specs.Rule.{ReplyRule, by_policy, IsCombined}
 use Rattle.redis_commands.proofs.Whole.{whole_keyspace}

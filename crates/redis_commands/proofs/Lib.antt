@@ -1,5 +1,4 @@
 pub mod Running
-pub mod RoutedSplits
 pub mod ByAddress
 pub mod Counts
 pub mod Listed
@@ -7,4 +6,4 @@ pub mod Primaries
 pub mod Whole
 pub mod Nodes
 pub mod Told
-pub mod Splits
+pub mod Routed

@@ -15,7 +15,7 @@ use Rattle.redis_combiners.specs.AllItems.{all_items}
 use Rattle.cluster_slots.specs.Lists.{all_some, flatten}
 use Rattle.redis_routing.specs.declared.policy.ResponsePolicy.TheVariants.{CombineArrays}
 use Rattle.redis_cluster.specs.Unsplit.{Keyspace}
-use Rattle.redis_commands.specs.Answers.{values_in, first_error}
+use Rattle.redis_combiners.specs.Answers.{values_in, first_error}
 use Rattle.redis_commands.specs.Policy.{reply_by_policy}
 use Rattle.redis_commands.specs.Rule.{ReplyRule, by_policy, IsCombined}
 use Rattle.redis_commands.specs.Keyspaces.{IsServed, AreMeasures, AreKeysOf, listed_answer, joined_measures}

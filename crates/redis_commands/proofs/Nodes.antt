@@ -1,5 +1,5 @@
 -- Lists of a map's nodes, which are empty only if the map is.
-use Rattle.std.proofs.Common.{◌≡◌, ℕ, List, [], ◌∷◌, map, Bor, Option, None, Some, length, replicate, refl, ap, arith}
+use Rattle.std.proofs.Common.{◌≡◌, ℕ, List, [], ◌∷◌, map, Bor, Option, None, Some, length, refl, ap, arith}
 use Rattle.std.proofs.lemmas.Grind.{common_steps}
 use Rattle.std.specs.Prelude.{cond, is_some, nat_lt, option_map, slice_get}
 use Rattle.std.proofs.lemmas.Bool.{le-ltb, lt-ltb}
@@ -38,11 +38,6 @@ only_uncovered entries route uncovered = record {
 pub same_for_each : {X : Type 0} (x : X) (nodes : List (Bor Address)) → map (λ node. x) nodes ≡ map (λ target. x) (addresses_behind nodes)
 same_for_each x [] = refl
 same_for_each x (node ∷ nodes) = ap (λ xs. x ∷ xs) (same_for_each x nodes)
-
--- as many of the same as there are nodes
-pub one_for_each : {X : Type 0} (x : X) (nodes : List Address) → replicate (length nodes) x ≡ map (λ target. x) nodes
-one_for_each x [] = refl
-one_for_each x (node ∷ nodes) = ap (λ xs. x ∷ xs) (one_for_each x nodes)
 
 -- the same for each, at a number
 pub same_at : {X Y : Type 0} (x : X) (o : Option Y) → cond (is_some o) (Some x) None ≡ option_map (λ y. x) o

@@ -6,7 +6,7 @@ use Rattle.std.specs.Result.{result_err}
 use Rattle.resp_core.specs.Answer.{Answer}
 use Rattle.resp_core.specs.ErrorParts.{ErrorParts}
 use Rattle.resp_core.specs.Reply.{Reply}
-use Rattle.redis_commands.specs.Answers.{first_in}
+use Rattle.redis_combiners.specs.Answers.{first_in}
 use Rattle.redis_commands.specs.Policy.{Combined, reply_or}
 
 -- what is made of the answers to come

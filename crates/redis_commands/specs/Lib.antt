@@ -1,4 +1,4 @@
-pub mod Answers
+pub use Rattle.redis_combiners.specs.Answers
 pub mod Policy
 pub mod Rule
 pub mod Planned

@@ -14,7 +14,7 @@ use Rattle.redis_combiners.specs.Logical.{logical_items}
 use Rattle.redis_combiners.specs.Totals.{combined_map}
 use Rattle.redis_routing.specs.declared.policy.ResponsePolicy.{ResponsePolicy}
 use Rattle.redis_routing.specs.declared.policy.ResponsePolicy.TheVariants.{OneSucceeded, FirstSucceededNonEmptyOrAllEmpty, AllSucceeded, AggregateLogical, Aggregate, CombineArrays, CombineMaps}
-use Rattle.redis_commands.specs.Answers.{non_nil_in, first_in, values_in, first_error, last_error}
+use Rattle.redis_combiners.specs.Answers.{non_nil_in, first_in, values_in, first_error, last_error}
 
 -- why there is no reply: an error of a target, as it came, or the values do not fit the policy
 pub data Failure : Type 0 where

@@ -12,7 +12,7 @@ use Rattle.redis_routing.specs.Split.{Split, slots_of, split_part}
 use Rattle.redis_routing.specs.declared.policy.ResponsePolicy.{ResponsePolicy}
 use Rattle.redis_routing.specs.declared.policy.ResponsePolicy.TheVariants.{OneSucceeded, FirstSucceededNonEmptyOrAllEmpty, AllSucceeded, CombineArrays}
 use Rattle.redis_cluster.specs.Plan.{IsMadeOfParts}
-use Rattle.redis_commands.specs.Answers.{values_in, first_error}
+use Rattle.redis_combiners.specs.Answers.{values_in, first_error}
 use Rattle.redis_commands.specs.Policy.{Returns, reply_by_policy}
 
 -- The answer of the only target is the reply; or a policy makes it of the answers to the whole

@@ -3,12 +3,12 @@ ghost use Rattle.std.specs.List.{list_any};
 ghost use Rattle.resp_core.specs.Reply.{nil};
 ghost use Rattle.resp_core.specs.View.{view};
 ghost use Rattle.cluster_map.specs.Targets.{addresses_behind};
-ghost use Rattle.redis_commands.specs.Answers.{unless_nil, answers_given, first_in, missing_answer, values_in, non_nil_in, first_error, last_error};
+ghost use Rattle.redis_combiners.specs.Answers.{unless_nil, answers_given, first_in, missing_answer, values_in, non_nil_in, first_error, last_error};
 ghost use Rattle.redis_commands.specs.Policy.{Returns, reply_or, unless_error, or_refused, refused, values_by_address};
 ghost use Rattle.redis_commands.specs.Rule.{IsCombined, by_policy};
 
-use crate::answers::{is_untold, missing};
 use cluster_slots::NodeAddress;
+use redis_combiners::answers::{is_untold, missing};
 use redis_combiners::{aggregate, combine_array_results, combine_map_results, logical_aggregate};
 use redis_routing::ResponsePolicy;
 use resp_core::{ErrorKind, RedisError, RedisResult, Value};

@@ -15,20 +15,21 @@ ghost use Rattle.redis_cluster.specs.Unsplit.{Keyspace, TupleResult, reply_by};
 ghost use Rattle.redis_routing.specs.Split.{Split};
 ghost use Rattle.redis_commands.specs.Keyspaces.{AreKeysOf, AreMeasures, HasCount, IsServed, counted_answer, listed_answer};
 ghost use Rattle.redis_routing.specs.Routing.{routing};
-ghost use Rattle.redis_commands.specs.Answers.{answers_given, first_error, missing_answer, values_in};
+ghost use Rattle.redis_combiners.specs.Answers.{answers_given, first_error, missing_answer, values_in};
 ghost use Rattle.redis_commands.specs.Part.{arguments_sent};
 ghost use Rattle.redis_commands.specs.Rule.{IsCombined, by_policy, of_parts, rule_of, sent_by};
 ghost use Rattle.redis_commands.specs.Planned.{IsPlanned};
 ghost use Rattle.redis_commands.specs.Targets.{AreTargets, IsCommandPlanFault};
 
-use crate::answers::{combine_parts, is_untold, missing, only_answer, tell_at, tell_one};
+use crate::answers::{only_answer, tell_one};
 use crate::combining::combine_answers;
 use crate::fault::CommandPlanFault;
 use crate::part::CommandPart;
 use crate::ways::{Way, plan_by};
 use cluster_map::{ReadRoutingStrategy, SlotMap};
 use cluster_slots::NodeAddress;
-use redis_routing::{Names, Routable, RoutingInfo};
+use redis_combiners::answers::tell_at;
+use redis_routing::{Names, Routable};
 use resp_core::{RedisResult, Value};
 use std::alloc::Global;
 use std::marker::Model;
@@ -57,17 +58,17 @@ pub struct CommandPlan<'a, R: Routable> {
 impl<'a, R: Routable> Model for CommandPlan<'a, R> {
     ghost use Rattle.std.specs.Coded.{codes};
     ghost use Rattle.resp_core.specs.contracts.value.Value as value;
-    ghost use Rattle.redis_commands.specs.Planned.{PlannedCommand};
+    ghost use Rattle.redis_commands.specs.Planned.{PlannedCommand, IsPlanned};
 
     ghost Value = { PlannedCommand };
 
     ghost coded = { Prim.hlevel (codes, value.the_row.coded) };
 
-    ghost use Rattle.redis_commands.specs.Way.{planned, IsWay};
+    ghost use Rattle.redis_commands.specs.Way.{planned};
 
     ghost view = { λ p. planned (R.args p.command.now) p.way };
 
-    ghost invariant = { λ p. IsWay (R.args p.command.now) p.way };
+    ghost invariant = { λ p. IsPlanned (planned (R.args p.command.now) p.way) };
 }
 
 impl<'a, R: Routable> CommandPlan<'a, R> {
@@ -109,16 +110,7 @@ impl<'a, R: Routable> CommandPlan<'a, R> {
             (λ fault.
             IsCommandPlanFault slot_map.now (names_in names.entry) (R.args command.now) fault) }
     {
-        let routing = RoutingInfo::for_routable_with(
-            alloc,
-            command,
-            names.read_only,
-            names.registry,
-        )?;
-        match routing {
-            Some(routing) => plan_by(alloc, command, names, &routing, slot_map, strategy, pick),
-            None => Err(CommandPlanFault::NotRoutable),
-        }
+        plan_by(alloc, command, names, slot_map, strategy, pick)
     }
 
     /// How many targets there are, which is at least one.
@@ -129,7 +121,7 @@ impl<'a, R: Routable> CommandPlan<'a, R> {
         match &self.way {
             Way::One(_, _) => 1,
             Way::Several(nodes, _, _) => nodes.len(),
-            Way::Split(plan, _) => plan.len(),
+            Way::Split(plan) => plan.len(),
         }
     }
 
@@ -144,7 +136,7 @@ impl<'a, R: Routable> CommandPlan<'a, R> {
                 let node = nodes.get(number)?;
                 Some(*node)
             }
-            Way::Split(plan, _) => plan.node(number),
+            Way::Split(plan) => plan.node(number),
         }
     }
 
@@ -156,7 +148,7 @@ impl<'a, R: Routable> CommandPlan<'a, R> {
         match &self.way {
             Way::One(_, _) => whole_if(self.command, number == 0),
             Way::Several(nodes, _, _) => whole_if(self.command, nodes.get(number).is_some()),
-            Way::Split(plan, _) => {
+            Way::Split(plan) => {
                 let part = plan.part(number)?;
                 Some(CommandPart::Split(part))
             }
@@ -187,14 +179,14 @@ impl<'a, R: Routable> CommandPlan<'a, R> {
         match &mut self.way {
             Way::One(_, told) => tell_one(told, number, answer),
             Way::Several(_, _, told) => tell_at(told, number, answer),
-            Way::Split(_, told) => tell_at(told, number, answer),
+            Way::Split(plan) => plan.tell(number, answer),
         }
     }
 
     /// The one reply of the command, once the plan has each answer.
     ///
     /// Of a command to one node it is the answer. Of a command in parts it is what `SplitPlan` makes
-    /// of the replies, or the first error. Of a command to each primary or each node it is what
+    /// of the answers. Of a command to each primary or each node it is what
     /// `combine_answers` makes, by the policy of its name.
     ///
     /// # Errors
@@ -235,12 +227,7 @@ impl<'a, R: Routable> CommandPlan<'a, R> {
         match way {
             Way::One(_, told) => only_answer(told),
             Way::Several(nodes, policy, told) => combine_answers(alloc, policy, &nodes, told),
-            Way::Split(plan, told) => {
-                if is_untold(&told) {
-                    return Err(missing());
-                }
-                combine_parts(alloc, Box::into_inner(plan), told)
-            }
+            Way::Split(plan) => Box::into_inner(plan).combine(alloc),
         }
     }
 }

@@ -1,6 +1,5 @@
 -- What stands in a plan after replies were told to its routes, one after the other.
 use Rattle.std.proofs.Common.{◌≡◌, ℕ, List, [], ◌∷◌, ◌++◌, Option, Some, None, Result, Ok, Err, OnOk, map, length, refl, sym, ◌∙◌, ap, false}
-use Rattle.std.proofs.lemmas.List.{length-map, map-append}
 use Rattle.std.specs.Prelude.{slice_get, slice_set, is_none}
 use Rattle.std.specs.Result.{is_err}
 use Rattle.std.specs.List.{list_any}
@@ -50,19 +49,16 @@ on_ok P (Ok a) said ok = said
 on_ok P (Err e) said ok = absurd (cc ok)
 
 -- the loop that tells one reply after the other
-pub tell_one : {V : Type 0} (slots now new : List (Option V)) (yielded : List (ℕ × V)) (number : ℕ) (reply : V)
-    → number ≡ length yielded → now ≡ after_telling slots (map (λ (p : ℕ × V). p.1) yielded)
+pub tell_one : {V : Type 0} (slots now new : List (Option V)) (told : List V) (number : ℕ) (reply : V)
+    → number ≡ length told → now ≡ after_telling slots told
     → (slice_get now number ≡ Some None) × (new ≡ slice_set now number (Some reply))
-    → new ≡ after_telling slots (map (λ (p : ℕ × V). p.1) (yielded ++ (number, reply) ∷ []))
-tell_one {V = V} slots now new yielded number reply number_is now_is told =
-    let values : List V = map (λ (p : ℕ × V). p.1) yielded in
-    let at : number ≡ length values = number_is ∙ sym (length-map yielded (λ (p : ℕ × V). p.1)) in
-    let there : slice_get (after_telling slots values) (length values) ≡ Some None =
-    ap (λ k. slice_get (after_telling slots values) k) (sym at) ∙ ap (λ l. slice_get l number) (sym now_is) ∙ told.0 in
-    told.1 ∙ ap (λ l. slice_set l number (Some reply)) now_is
-    ∙ ap (λ k. slice_set (after_telling slots values) k (Some reply)) at
-    ∙ tell_next slots values reply there
-    ∙ ap (λ l. after_telling slots l) (sym (map-append (λ (p : ℕ × V). p.1) yielded ((number, reply) ∷ [])))
+    → new ≡ after_telling slots (told ++ reply ∷ [])
+tell_one slots now new told number reply at now_is next =
+    let there : slice_get (after_telling slots told) (length told) ≡ Some None =
+    ap (λ k. slice_get (after_telling slots told) k) (sym at) ∙ ap (λ l. slice_get l number) (sym now_is) ∙ next.0 in
+    next.1 ∙ ap (λ l. slice_set l number (Some reply)) now_is
+    ∙ ap (λ k. slice_set (after_telling slots told) k (Some reply)) at
+    ∙ tell_next slots told reply there
 
 -- where each reply was told to a plan without any, these are all replies
 pub told_each : {V R : Type 0} (routes : List R) (slots final : List (Option V)) (told : List V)

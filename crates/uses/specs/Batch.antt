@@ -27,9 +27,9 @@ use Rattle.uses.specs.declared.batcher.NoReply.{NoReply}
 abbrev pub Answers : Type 0
 Answers = List (Result Value NoReply)
 
--- the plan has no reply yet
+-- the plan has no answer yet
 abbrev pub IsUntold : Plan → Type 0
-IsUntold plan = plan.replies ≡ map (λ route. None) plan.split.routes
+IsUntold plan = plan.answers ≡ map (λ route. None) plan.split.routes
 
 -- Each answer is a reply. If the plan had no reply before, the command's policy makes the one reply
 -- of them. It is the reply to the command, amid what others write.

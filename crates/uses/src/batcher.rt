@@ -26,10 +26,10 @@ pub type Answer = Result<Value, NoReply>;
 pub trait Connections {
     /// Whether these may be the parts that were handed over so far, each with its node: a list for
     /// each call.
-    ghost handed: { Self → List (List Target) → Type 0 } = { λ _ _. Unit {0} };
+    ghost handed: { Self → List (List Target) → Type 0 };
 
     /// Whether these may be the answers so far: a list for each call.
-    ghost gave: { Self → List Answers → Type 0 } = { λ _ _. Unit {0} };
+    ghost gave: { Self → List Answers → Type 0 };
 
     /// Sends each part to its node without waiting in between. Returns an answer for each, in
     /// order.
@@ -154,7 +154,7 @@ pub fn gather(
 {
     let replies = replies_in(alloc, answers)?;
     for (number, reply) in replies.into_iter().enumerate() {
-        if plan.tell(number, reply).is_err() {
+        if plan.tell(number, Ok(reply)).is_err() {
             return Err(not_combined("an answer to no part"));
         }
     }

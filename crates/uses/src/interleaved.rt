@@ -43,7 +43,7 @@ fn send_part<N: Nodes>(
 ) -> Option<()> {
     let part = plan.part(number)?;
     let reply = send(alloc, part, &[0], slot_map, nodes)?;
-    plan.tell(number, reply).ok()
+    plan.tell(number, Ok(reply)).ok()
 }
 
 /// Sends the parts of a command in this order, and returns its reply, if there is one.

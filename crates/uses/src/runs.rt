@@ -119,6 +119,10 @@ struct Planned {
 }
 
 impl batcher::Connections for Planned {
+    ghost handed = { λ _ _. Unit {0} };
+
+    ghost gave = { λ _ _. Unit {0} };
+
     fn exchange(
         &mut self,
         _parts: &[(&NodeAddress, &Cmd)],

@@ -19,10 +19,8 @@ pub trait Connections {
 pub enum BatchError {
     /// It has no plan. Nothing was sent.
     NotPlanned(PlanFault),
-    /// There is no reply to the part of this number. Other parts may have taken effect.
-    NotAnswered(usize, RedisError),
-    /// The answers make no reply, or are too few.
-    NotCombined(RedisError),
+    /// The first error of an answer, or the answers make no reply. Parts may have taken effect.
+    NotAnswered(RedisError),
     /// Memory ran out. Parts may have taken effect.
     Memory,
 }
@@ -43,14 +41,9 @@ pub fn batch<C: Connections>(
         return Err(BatchError::Memory);
     };
     for (number, answer) in answers.into_iter().enumerate() {
-        match answer {
-            Ok(reply) => {
-                let _ = plan.tell(number, reply);
-            }
-            Err(error) => return Err(BatchError::NotAnswered(number, error)),
-        }
+        let _ = plan.tell(number, answer);
     }
-    plan.combine(alloc).map_err(BatchError::NotCombined)
+    plan.combine(alloc).map_err(BatchError::NotAnswered)
 }
 
 /// Sends each part to its node, and gives an answer to each.

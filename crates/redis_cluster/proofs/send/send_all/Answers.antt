@@ -1,4 +1,4 @@
-use Rattle.std.proofs.Common.{◌≡◌, ◌<◌, ℕ, ◌+◌, List, ◌++◌, Some, All, refl, sym, ap, ◌∙◌, arith, subst, length, map, take, get_or}
+use Rattle.std.proofs.Common.{◌≡◌, ◌<◌, ℕ, ◌+◌, List, ◌++◌, Some, Ok, All, refl, sym, ap, ◌∙◌, arith, subst, length, map, take, get_or}
 use Rattle.std.proofs.lemmas.Grind.{common_steps}
 use Rattle.std.specs.Prelude.{slice_get, slice_set, option_and_then, IsSome, Option}
 use Rattle.std.proofs.lemmas.Slice.Zip.{AllZip-long}
@@ -96,17 +96,17 @@ loop-number-preserved g c =
     let retries = c.args.retries.now in
     let tries = tries_with (targets plan) retries in
     let unsent : slice_get c.loop-number.retries k ≡ slice_get retries k = inv.others k (not_yet (length plan.split.routes) order i c.requires.order inside) in
-    let replies_are : c.tell_first.new.plan.replies ≡ slice_set c.loop-number.plan.replies k (Some c.in-Ok.reply) = ap (λ (p : Plan). p.replies) c.tell_first.ensures in
-    let room : k < length c.loop-number.plan.replies = omega (arith, within, inv.room) in
+    let answers_are : c.tell_first.new.plan.answers ≡ slice_set c.loop-number.plan.answers k (Some (Ok c.in-Ok.reply)) = ap (λ (p : Plan). p.answers) c.tell_first.ensures in
+    let room : k < length c.loop-number.plan.answers = omega (arith, within, inv.room) in
     record {
       split = ap (λ (p : Plan). p.split) c.tell_first.ensures ∙ inv.split;
       same_targets = ap targets c.tell_first.ensures ∙ inv.same_targets;
-      room = ap length replies_are ∙ length-set c.loop-number.plan.replies k (Some c.in-Ok.reply) ∙ inv.room;
+      room = ap length answers_are ∙ length-set c.loop-number.plan.answers k (Some (Ok c.in-Ok.reply)) ∙ inv.room;
       frame = frame_more nodes c.args.nodes.now c.loop-number.nodes c.send_part.new.nodes inv.frame c.send_part.ensures.frame;
-      some_told = subst (λ rs. AreSomeTold rs order (i + 1) (length slots)) (sym replies_are)
-          (some_told_more c.loop-number.plan.replies slots order i k inside refl room (length slots) c.in-Ok.reply inv.some_told);
-      given = subst (λ rs. AreGivenSo (nodes.gave c.args.nodes.now) (nodes.gave c.send_part.new.nodes) rs (take (i + 1) order)) (sym replies_are)
-          (given_more (nodes.gave c.args.nodes.now) (nodes.gave c.loop-number.nodes) (nodes.gave c.send_part.new.nodes) c.loop-number.plan.replies order i k c.in-Ok.reply inside refl room
+      some_told = subst (λ rs. AreSomeTold rs order (i + 1) (length slots)) (sym answers_are)
+          (some_told_more c.loop-number.plan.answers slots order i k inside refl room (length slots) c.in-Ok.reply inv.some_told);
+      given = subst (λ rs. AreGivenSo (nodes.gave c.args.nodes.now) (nodes.gave c.send_part.new.nodes) rs (take (i + 1) order)) (sym answers_are)
+          (given_more (nodes.gave c.args.nodes.now) (nodes.gave c.loop-number.nodes) (nodes.gave c.send_part.new.nodes) c.loop-number.plan.answers order i k c.in-Ok.reply inside refl room
           (not_yet (length plan.split.routes) order i c.requires.order inside) (c.in-Ok.ensures.answered t.target (at t.target t.target_at)).gave inv.given);
       told = λ command is now.
           let was = c.send_part.ensures.frame.kept now in
@@ -116,10 +116,10 @@ loop-number-preserved g c =
           (c.in-Ok.ensures.answered own.target (at own.target own.target_at)).reply (part_of command own.slot) (ap (λ p. multi_key (nodes.registered c.loop-number.nodes) (map Some p)) (try_part own.target (slice_get c.loop-number.retries k)) ∙ ap (λ registered. multi_key registered (map Some own.target.1)) inv.frame.registered ∙ own.part) now
           ∙ ap (λ ks. reply_by command.form (results (act_of nodes.step command) (tuples_of_slot own.slot command.tuples) ks)) (inv.keyspace command is was)
           ∙ ap (reply_by command.form) (results_more (act_of nodes.step command) slots order command.tuples old i k own.slot names is.at_most_once inside refl own.slot_at) in
-          subst (λ rs. AreTold rs slots order (i + 1) reply_of) (sym replies_are)
-          (told_more c.loop-number.plan.replies slots order i k inside refl room reply_of own.slot c.in-Ok.reply own.slot_at says (inv.told command is was));
-      untold = subst (λ rs. AreUntold rs order (i + 1) (length slots)) (sym replies_are)
-          (untold_less c.loop-number.plan.replies slots order i k inside refl room (length slots) c.in-Ok.reply inv.untold);
+          subst (λ rs. AreTold rs slots order (i + 1) reply_of) (sym answers_are)
+          (told_more c.loop-number.plan.answers slots order i k inside refl room reply_of own.slot c.in-Ok.reply own.slot_at says (inv.told command is was));
+      untold = subst (λ rs. AreUntold rs order (i + 1) (length slots)) (sym answers_are)
+          (untold_less c.loop-number.plan.answers slots order i k inside refl room (length slots) c.in-Ok.reply inv.untold);
       trace = tried_more (in_order tries (take i order)) (in_order tries (take (i + 1) order)) (try_with t.target (slice_get retries k)) (nodes.state c.args.nodes.now).trace (nodes.state c.loop-number.nodes).trace (nodes.state c.send_part.new.nodes).trace inv.trace
           (subst (λ (o : Option RetryState). AttemptsOf (try_with t.target o) (Some answered) (nodes.state c.loop-number.nodes).trace (nodes.state c.send_part.new.nodes).trace) unsent (c.in-Ok.ensures.answered t.target (at t.target t.target_at)).tried)
           (in_order_more tries order i k (try_with t.target (slice_get retries k)) inside refl (try_there (targets plan) retries k t.target t.target_at));
@@ -191,7 +191,7 @@ returns-clause-replies g c =
     λ command is now.
     let rs = results_of nodes.step command (nodes.state c.args.nodes.now).keyspace in
     let reply_of : ℕ → Reply = λ slot. reply_by command.form (items_of_slot slot command.tuples rs) in
-    let all = all_told c.loop-number.plan.replies slots reply_of inv.room
+    let all = all_told c.loop-number.plan.answers slots reply_of inv.room
     (λ number slot at. inv.told command is now number slot at
     (let inside : number < length slots = slice_get_within slots number slot at in
     let once : times number (take i order) ≡ 1 = ap (times number) whole ∙ c.requires.order.once number (omega (arith, inside, many plan)) in omega (arith, once))) in
@@ -216,7 +216,7 @@ returns-clause-told g c =
     let inv = c.loop-number.invariant in
     let i = c.loop-number.number-index in
     let whole : take i order ≡ order = take_all i order (omega (arith, c.loop-number-test.false)) in
-    let all = all_some_told c.loop-number.plan.replies
+    let all = all_some_told c.loop-number.plan.answers
     (λ number inside.
     let room = inv.room in
     let below : number < length (slots_of plan.split.routes) = omega (arith, inside, room) in
@@ -225,9 +225,9 @@ returns-clause-told g c =
     record {
       values = all.0;
       all_told = all.1;
-      each = sym (length-map all.0 Some) ∙ ap length (sym all.1) ∙ inv.room ∙ many plan;
-      gave = given_all (g.N.Nodes.gave c.args.nodes.now) (g.N.Nodes.gave c.loop-number.nodes) c.loop-number.plan.replies order all.0 all.1
-          (subst (AreGivenSo (g.N.Nodes.gave c.args.nodes.now) (g.N.Nodes.gave c.loop-number.nodes) c.loop-number.plan.replies) whole inv.given);
+      each = sym (length-map all.0 (λ v. Some (Ok v))) ∙ ap length (sym all.1) ∙ inv.room ∙ many plan;
+      gave = given_all (g.N.Nodes.gave c.args.nodes.now) (g.N.Nodes.gave c.loop-number.nodes) c.loop-number.plan.answers order all.0 all.1
+          (subst (AreGivenSo (g.N.Nodes.gave c.args.nodes.now) (g.N.Nodes.gave c.loop-number.nodes) c.loop-number.plan.answers) whole inv.given);
     }
 
 pub returns-in-Err-clause-given : goal.returns-in-Err-clause-given
@@ -242,12 +242,12 @@ returns-in-Err-clause-given g c =
     let t = route_target (g.N.Nodes.registered c.args.nodes.now) c.requires.command.0 (slots_of plan.split.routes) plan.nodes plan.parts k (is.nodes ∙ sym (many plan)) is.parts (omega (arith, next, many plan)) in
     let given = inv.given in
     let room = inv.room in
-    let long : length plan.split.routes ≡ length c.loop-number.plan.replies = sym (room ∙ many plan) in
-    let below : All (λ k. k < length c.loop-number.plan.replies) (take i order) =
-    All-take (λ k. k < length c.loop-number.plan.replies) i order (subst (λ n. All (λ k. k < n) order) long c.requires.order.below) in
+    let long : length plan.split.routes ≡ length c.loop-number.plan.answers = sym (room ∙ many plan) in
+    let below : All (λ k. k < length c.loop-number.plan.answers) (take i order) =
+    All-take (λ k. k < length c.loop-number.plan.answers) i order (subst (λ n. All (λ k. k < n) order) long c.requires.order.below) in
     let first : length (take i order) ≡ i = length-take-le i order (omega (arith, c.loop-number-test.true)) in
     let each : length given.values ≡ i =
-    sym (length-map given.values Some) ∙ ap length (sym given.told) ∙ length-in_order c.loop-number.plan.replies (take i order) below ∙ first in
+    sym (length-map given.values (λ v. Some (Ok v))) ∙ ap length (sym given.told) ∙ length-in_order c.loop-number.plan.answers (take i order) below ∙ first in
     record {
       replies = map view given.values;
       each = length-map given.values view ∙ each ∙ sym inv.answered;

@@ -21,12 +21,12 @@ invariant-loop-number g l =
     record {
       split : l.plan.split ≡ l.fn.plan.split;
       same_targets : targets l.plan ≡ targets l.fn.plan;
-      room : length l.plan.replies ≡ length slots;
+      room : length l.plan.answers ≡ length slots;
       frame : SameNodes nodes l.fn.nodes l.nodes;
-      some_told : AreSomeTold l.plan.replies l.order l.number-index (length slots);
-      given : AreGivenSo (nodes.gave l.fn.nodes) (nodes.gave l.nodes) l.plan.replies (take l.number-index l.order);
-      told : (command : MultiKey) → IsPlanOf (nodes.registered l.fn.nodes) command l.fn.plan → nodes.kept l.nodes → AreTold l.plan.replies slots l.order l.number-index (λ slot. reply_by command.form (items_of_slot slot command.tuples (results_of nodes.step command old)));
-      untold : AreUntold l.plan.replies l.order l.number-index (length slots);
+      some_told : AreSomeTold l.plan.answers l.order l.number-index (length slots);
+      given : AreGivenSo (nodes.gave l.fn.nodes) (nodes.gave l.nodes) l.plan.answers (take l.number-index l.order);
+      told : (command : MultiKey) → IsPlanOf (nodes.registered l.fn.nodes) command l.fn.plan → nodes.kept l.nodes → AreTold l.plan.answers slots l.order l.number-index (λ slot. reply_by command.form (items_of_slot slot command.tuples (results_of nodes.step command old)));
+      untold : AreUntold l.plan.answers l.order l.number-index (length slots);
       trace : SentInTurn (in_order (tries_with (targets l.fn.plan) l.fn.retries) (take l.number-index l.order)) (nodes.state l.fn.nodes).trace (nodes.state l.nodes).trace;
       allowed : AreAllowed (nodes.may_refuse l.fn.nodes) (nodes.state l.fn.nodes).trace (nodes.state l.nodes).trace;
       others : (other : ℕ) → times other (take l.number-index l.order) ≡ 0 → slice_get l.retries other ≡ slice_get l.fn.retries other;

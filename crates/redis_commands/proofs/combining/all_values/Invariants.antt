@@ -1,6 +1,6 @@
 use Rattle.std.proofs.Common.{◌≡◌, ◌++◌, map}
 use Rattle.resp_core.specs.View.{view}
-use Rattle.redis_commands.specs.Answers.{answers_given, values_in}
+use Rattle.redis_combiners.specs.Answers.{answers_given, values_in}
 use Rattle.redis_commands.proofs.combining.all_values.Given as goal
 
 abbrev pub invariant-loop-answer : goal.invariant-loop-answer

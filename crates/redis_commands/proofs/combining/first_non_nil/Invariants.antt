@@ -1,7 +1,7 @@
 use Rattle.std.proofs.Common.{◌≡◌, Ok}
 use Rattle.std.specs.Prelude.{filter_map}
 use Rattle.resp_core.specs.Reply.{nil}
-use Rattle.redis_commands.specs.Answers.{answers_given, non_nil_in, first_in, last_error}
+use Rattle.redis_combiners.specs.Answers.{answers_given, non_nil_in, first_in, last_error}
 use Rattle.redis_commands.specs.Policy.{reply_or}
 use Rattle.redis_commands.proofs.Running.{to_come}
 use Rattle.redis_commands.proofs.combining.first_non_nil.Given as goal

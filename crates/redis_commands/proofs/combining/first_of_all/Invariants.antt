@@ -1,7 +1,7 @@
 use Rattle.std.proofs.Common.{◌≡◌}
 use Rattle.std.specs.Prelude.{option_map}
 use Rattle.resp_core.specs.View.{view}
-use Rattle.redis_commands.specs.Answers.{answers_given, first_in, first_error, values_in}
+use Rattle.redis_combiners.specs.Answers.{answers_given, first_in, first_error, values_in}
 use Rattle.redis_commands.proofs.Running.{earlier}
 use Rattle.redis_commands.proofs.combining.first_of_all.Given as goal
 

@@ -1,6 +1,6 @@
 use Rattle.std.proofs.Common.{◌≡◌, Err}
 use Rattle.std.specs.Result.{result_ok}
-use Rattle.redis_commands.specs.Answers.{answers_given, first_in, values_in, last_error}
+use Rattle.redis_combiners.specs.Answers.{answers_given, first_in, values_in, last_error}
 use Rattle.redis_commands.specs.Policy.{refused, reply_or}
 use Rattle.redis_commands.proofs.Running.{to_come}
 use Rattle.redis_commands.proofs.combining.first_value.Given as goal

@@ -1,117 +1,100 @@
-use Rattle.std.proofs.Common.{◌≡◌, ◌⊎◌, ℕ, List, [], Some, IfSome, Result, Ok, Err, IsErrAnd, IfErr, ap, sym, subst, ◌∙◌, false, length, map, option_map, replicate, arith}
-use Rattle.std.specs.List.{AllZip}
-use Rattle.std.specs.declared.alloc.Global.{Global}
-use Rattle.std.specs.declared.vec.Vec.{Vec}
+use Rattle.std.proofs.Common.{◌≡◌, ◌⊎◌, ℕ, List, Option, Some, IfOk, IfSome, Result, Ok, Err, ap, sym, subst, ◌∙◌, map, option_map, arith}
+use Rattle.std.proofs.lemmas.Result.{IfErr-weaker, IfOk-weaker}
 use Rattle.cluster_slots.specs.SlotRoute.{SlotRoute}
 use Rattle.cluster_map.specs.SlotNodes.{SlotNodes}
 use Rattle.cluster_map.specs.RangeMap.{RangeEntry}
-use Rattle.redis_routing.specs.Command.{Arguments}
+use Rattle.redis_routing.specs.Command.{Arguments, command_name}
 use Rattle.redis_routing.specs.Names.{Names, names_in}
-use Rattle.redis_routing.specs.Complete.{multi_slot_routes}
-use Rattle.redis_routing.specs.Split.{HasJoiningPolicy}
-use Rattle.redis_routing.specs.RoutingInfo.{route_lists}
-use Rattle.redis_cluster.proofs.CommandParts.{routes_are}
+use Rattle.redis_routing.specs.Complete.{multi_slot_routes, pattern_by_name}
+use Rattle.redis_routing.specs.Split.{Split, HasJoiningPolicy, policy_by_name}
 use Rattle.redis_cluster.specs.Driven.{IsFirstUncovered, request}
 use Rattle.redis_cluster.specs.Faults.{IsPlanFault}
+use Rattle.redis_cluster.specs.MultiKey.{MultiKey}
+use Rattle.redis_cluster.specs.Plan.{Plan, IsRoutedPlan}
+use Rattle.redis_cluster.specs.Ready.{IsPlanNode, IsPlanOf}
 use Rattle.redis_cluster.specs.declared.fault.PlanFault.{PlanFault}
 use Rattle.redis_cluster.specs.declared.fault.PlanFault.TheVariants.{Memory, NotCovered}
-use Rattle.std.proofs.lemmas.List.{length-replicate}
-use Rattle.std.proofs.lemmas.Slice.Zip.{AllZip-long}
-use Rattle.redis_cluster.proofs.Covered.{IsNode, covered_by_nodes, firsts-route_lists}
-use Rattle.redis_cluster.specs.Plan.{Plan, marked_replies}
-use Rattle.redis_cluster.specs.MultiKey.{MultiKey}
-use Rattle.redis_cluster.specs.Ready.{IsPlanNode, IsPlanOf}
-use Rattle.redis_cluster.proofs.Planned.{joining_routes, made_parts, ready}
-use Rattle.redis_cluster.proofs.Wider.{own_nodes}
-use Rattle.redis_cluster.proofs.Telling.{length-told, none_told}
-use Rattle.redis_cluster.proofs.plan.SplitPlan.new.Goals as goal
+use Rattle.redis_cluster.proofs.CommandParts.{routes_are}
 use Rattle.redis_cluster.proofs.Constructors.{of_some}
+use Rattle.redis_cluster.proofs.Covered.{covered_by_nodes}
+use Rattle.redis_cluster.proofs.Planned.{joining_routes, made_parts, planned, ready}
+use Rattle.redis_cluster.proofs.Wider.{own_nodes}
+use Rattle.redis_cluster.proofs.plan.SplitPlan.new.Goals as goal
 
--- why there are no nodes for the routes of a command
-fault_of_nodes : (entries : List (RangeEntry SlotNodes)) (names : Names) (args : Arguments) (routes : List (SlotRoute × Vec ℕ Global)) →
-    Some (route_lists routes) ≡ multi_slot_routes names args → IfSome (multi_slot_routes names args) (λ routes. HasJoiningPolicy names.registered args) → (fault : PlanFault) →
-    (fault ≡ Memory) ⊎ ((slot : ℕ) × (fault ≡ NotCovered slot) × IsFirstUncovered entries (map (λ r. r.0) routes) slot) →
-    IsPlanFault entries names args fault
-fault_of_nodes entries names args routes h1 h2 fault h3 = grind (arith, routes_are, firsts-route_lists)
+-- the split is that of a command of these arguments
+record IsSplitOf (names : Names) (args : Arguments) (split : Split) : Type 0 where
+  arguments : split.arguments ≡ args
+  routes : Some split.routes ≡ multi_slot_routes names args
+  pattern : Some split.pattern ≡ pattern_by_name names.registered (command_name args)
+  policy : Some split.policy ≡ policy_by_name names.registered (command_name args)
 
--- what holds of the error of a result that is one
-err_from : {T E : Type 0} (P Q : E → Type 0) (r : Result T E) → IsErrAnd r P → ((e : E) → P e → Q e) → IfErr r Q
-err_from P Q (Ok x) is gives = tt
-err_from P Q (Err e) is gives = gives e is
+-- why it has no plan
+fault_of_split : (entries : List (RangeEntry SlotNodes)) (names : Names) (args : Arguments) (routes : List (SlotRoute × List ℕ)) → Some routes ≡ multi_slot_routes names args → IfSome (multi_slot_routes names args) (λ routes. HasJoiningPolicy names.registered args) → (fault : PlanFault)
+    → (fault ≡ Memory) ⊎ ((slot : ℕ) × (fault ≡ NotCovered slot) × IsFirstUncovered entries (map (λ r. r.0) routes) slot) → IsPlanFault entries names args fault
+fault_of_split entries names args routes of_command joins fault why = grind (arith, routes_are)
 
-pub returns-in_err-nodes-clause-fault : goal.returns-in_err-nodes-clause-fault
-returns-in_err-nodes-clause-fault g c =
-    let entries = c.args.slot_map.now in
+-- what follows of a plan that was made of it
+of_plan : {E : Type 0} (names : Names) (args : Arguments) (found : Option Split) (split : Split) (Nodes P : Plan → Type 0) (r : Result Plan E) → found ≡ Some split
+    → option_map (λ s. s.routes) found ≡ multi_slot_routes names args → IfSome found (λ s. s.arguments ≡ args) → IfSome found (λ s. Some s.pattern ≡ pattern_by_name names.registered (command_name args))
+    → IfSome found (λ s. Some s.policy ≡ policy_by_name names.registered (command_name args)) → IfOk r (λ plan. plan.split ≡ split) → IfOk r Nodes → IfOk r IsRoutedPlan
+    → ((plan : Plan) → IsSplitOf names args plan.split → Nodes plan → IsRoutedPlan plan → P plan) → IfOk r P
+of_plan names args found split Nodes P (Ok plan) is routes arguments pattern policy same nodes whole gives =
+    let of : IsSplitOf names args split = record { arguments = of_some _ found split is arguments; routes = sym (ap (option_map (λ s. s.routes)) is) ∙ routes; pattern = of_some _ found split is pattern; policy = of_some _ found split is policy } in
+    gives plan (subst (IsSplitOf names args) (sym same) of) nodes whole
+of_plan names args found split Nodes P (Err e) is routes arguments pattern policy same nodes whole gives = tt
+
+pub returns-in-Some-clause-slots : goal.returns-in-Some-clause-slots
+returns-in-Some-clause-slots g c =
+    let names = names_in c.args.names in
+    let args = g.R.Routable.args c.args.command.now in
+    let new = c.in_ok-split.ensures in
+    let made = c.from_split.ensures in
+    of_plan names args c.in_ok-split.field-0 c.in-Some.split _ _ c.from_split.result c.in-Some.is new.routes new.arguments new.pattern new.policy made.split made.nodes made.plan
+    (λ plan of nodes whole. ap (option_map (map (λ r. r.0))) of.routes ∙ routes_are names args (joining_routes names args plan.split of.routes of.policy whole.split))
+
+pub returns-in-Some-clause-parts : goal.returns-in-Some-clause-parts
+returns-in-Some-clause-parts g c =
+    let names = names_in c.args.names in
+    let args = g.R.Routable.args c.args.command.now in
+    let new = c.in_ok-split.ensures in
+    let made = c.from_split.ensures in
+    of_plan names args c.in_ok-split.field-0 c.in-Some.split _ _ c.from_split.result c.in-Some.is new.routes new.arguments new.pattern new.policy made.split made.nodes made.plan
+    (λ plan of nodes whole. made_parts names args plan.split plan.parts of.arguments of.routes of.pattern of.policy whole.split whole.parts)
+
+pub returns-in-Some-clause-covered : goal.returns-in-Some-clause-covered
+returns-in-Some-clause-covered g c =
+    IfOk-weaker c.from_split.result _ _
+    (λ plan nodes. covered_by_nodes c.args.strategy (λ s. (goal.ReadRoutingStrategy-dyn g s.now).picks s.now.1) c.args.slot_map.now c.args.pick plan.split.routes plan.nodes nodes)
+    c.from_split.ensures.nodes
+
+pub returns-in-Some-clause-command : goal.returns-in-Some-clause-command
+returns-in-Some-clause-command g c =
+    let names = names_in c.args.names in
+    let args = g.R.Routable.args c.args.command.now in
+    let new = c.in_ok-split.ensures in
+    let made = c.from_split.ensures in
+    of_plan names args c.in_ok-split.field-0 c.in-Some.split _ _ c.from_split.result c.in-Some.is new.routes new.arguments new.pattern new.policy made.split made.nodes made.plan
+    (λ plan of nodes whole registered same.
+    let is = planned names args plan of.arguments of.routes of.pattern of.policy whole in
+    subst (λ known. (command : MultiKey) × IsPlanOf known command plan) same (is.0, is.2))
+
+pub returns-in-Some-clause-ready : goal.returns-in-Some-clause-ready
+returns-in-Some-clause-ready g c =
+    let names = names_in c.args.names in
+    let args = g.R.Routable.args c.args.command.now in
+    let new = c.in_ok-split.ensures in
+    let made = c.from_split.ensures in
+    of_plan names args c.in_ok-split.field-0 c.in-Some.split _ _ c.from_split.result c.in-Some.is new.routes new.arguments new.pattern new.policy made.split made.nodes made.plan
+    (λ plan of nodes whole order.
+    ready (IsPlanNode plan) (request args names c.args.slot_map.now order) plan of.arguments of.routes of.pattern of.policy whole (own_nodes plan whole.nodes)
+    (covered_by_nodes c.args.strategy (λ s. (goal.ReadRoutingStrategy-dyn g s.now).picks s.now.1) c.args.slot_map.now c.args.pick plan.split.routes plan.nodes nodes))
+
+pub returns-in-Some-clause-fault : goal.returns-in-Some-clause-fault
+returns-in-Some-clause-fault g c =
     let names = names_in c.args.names in
     let args = g.R.Routable.args c.args.command.now in
     let new = c.in_ok-split.ensures in
     let split = c.in-Some.split in
     let routes : Some split.routes ≡ multi_slot_routes names args = sym (ap (option_map (λ s. s.routes)) c.in-Some.is) ∙ new.routes in
-    let of_command : Some (route_lists c.routes.result.now) ≡ multi_slot_routes names args = ap Some c.routes.ensures.routes ∙ routes in
-    let joins = joining_routes names args split routes (of_some _ c.in_ok-split.field-0 split c.in-Some.is new.policy) c.routes.ensures.split in
-    err_from _ _ c.from_residual-in_err-nodes.result c.from_residual-in_err-nodes.ensures.1
-    (λ fault is. subst (IsPlanFault entries names args) (sym is)
-    (fault_of_nodes entries names args c.routes.result.now of_command joins c.in_err-nodes.field-0.0 c.in_err-nodes.ensures.fault))
-
-pub invariant_of-result : goal.invariant_of-result
-invariant_of-result g c =
-    let is_node = IsNode c.args.strategy (λ s. (goal.ReadRoutingStrategy-dyn g s.now).picks s.now.1) c.args.slot_map.now c.args.pick in
-    let nodes = map (λ n. n.now) c.in_ok-nodes.nodes.items in
-    let marks = c.in_ok-answered.answered.items in
-    let replies = c.in_ok-replies.replies.items in
-    let unmarked : marks ≡ replicate c.len-count.result false = c.in_ok-answered.ensures.items_if_clones_equal (λ y is. is) in
-    let long : length marks ≡ length replies = ap length unmarked ∙ length-replicate c.len-count.result false ∙ sym c.in_ok-replies.ensures in (
-      record {
-        split = c.routes.ensures.split;
-        nodes = AllZip-long is_node c.in-Some.split.routes nodes (subst (λ routes. AllZip is_node routes nodes) c.routes.ensures.routes c.in_ok-nodes.ensures.nodes);
-        parts = c.in_ok-parts.ensures;
-        replies = length-told marks replies long ∙ c.in_ok-replies.ensures ∙ c.len-count.ensures.len;
-      },
-      long,
-    )
-
-pub returns-clause-covered : goal.returns-clause-covered
-returns-clause-covered g c =
-    let entries = c.args.slot_map.now in
-    let is_node = IsNode c.args.strategy (λ s. (goal.ReadRoutingStrategy-dyn g s.now).picks s.now.1) entries c.args.pick in
-    let nodes = map (λ n. n.now) c.in_ok-nodes.nodes.items in
-    covered_by_nodes c.args.strategy (λ s. (goal.ReadRoutingStrategy-dyn g s.now).picks s.now.1) entries c.args.pick c.in-Some.split.routes nodes
-    (subst (λ routes. AllZip is_node routes nodes) c.routes.ensures.routes c.in_ok-nodes.ensures.nodes)
-
-pub returns-clause-untold : goal.returns-clause-untold
-returns-clause-untold g c =
-    let unmarked : c.in_ok-answered.answered.items ≡ replicate c.len-count.result false = c.in_ok-answered.ensures.items_if_clones_equal (λ y is. is) in
-    rw unmarked (none_told c.len-count.result c.in_ok-replies.replies.items c.in-Some.split.routes c.in_ok-replies.ensures (sym c.len-count.ensures.len))
-
-pub returns-clause-parts : goal.returns-clause-parts
-returns-clause-parts g c =
-    let args = g.R.Routable.args c.args.command.now in
-    let new = c.in_ok-split.ensures in
-    let split = c.in-Some.split in
-    let found = c.in_ok-split.field-0 in
-    made_parts (names_in c.args.names) args split c.in_ok-parts.parts.items
-    (of_some _ found split c.in-Some.is new.arguments)
-    (sym (ap (option_map (λ s. s.routes)) c.in-Some.is) ∙ new.routes) (of_some _ found split c.in-Some.is new.pattern) (of_some _ found split c.in-Some.is new.policy) c.routes.ensures.split c.in_ok-parts.ensures
-
-pub returns-clause-slots : goal.returns-clause-slots
-returns-clause-slots g c = grind (arith, routes_are, joining_routes)
-
-pub returns-clause-ready : goal.returns-clause-ready
-returns-clause-ready g c = λ order.
-    let args = g.R.Routable.args c.args.command.now in
-    let names = names_in c.args.names in
-    let split = c.in-Some.split in
-    let new = c.in_ok-split.ensures in
-    let found = c.in_ok-split.field-0 in
-    let whole = (invariant_of-result g c).0 in
-    let plan : Plan = record { split = split; nodes = map (λ n. n.now) c.in_ok-nodes.nodes.items; parts = c.in_ok-parts.parts.items; replies = marked_replies c.in_ok-answered.answered.items c.in_ok-replies.replies.items } in
-    ready (IsPlanNode plan) (request args names c.args.slot_map.now order) plan
-    (of_some _ found split c.in-Some.is new.arguments)
-    (sym (ap (option_map (λ s. s.routes)) c.in-Some.is) ∙ new.routes) (of_some _ found split c.in-Some.is new.pattern) (of_some _ found split c.in-Some.is new.policy)
-    whole (own_nodes plan whole.nodes) (returns-clause-covered g c)
-
-pub returns-clause-command : goal.returns-clause-command
-returns-clause-command g c = λ registered same.
-    let plan : Plan = record { split = c.in-Some.split; nodes = map (λ n. n.now) c.in_ok-nodes.nodes.items; parts = c.in_ok-parts.parts.items; replies = marked_replies c.in_ok-answered.answered.items c.in_ok-replies.replies.items } in
-    let made = returns-clause-ready g c [] in
-    subst (λ known. (command : MultiKey) × IsPlanOf known command plan) same (made.0, made.1.plan_is)
+    let joins = joining_routes names args split routes (of_some _ c.in_ok-split.field-0 split c.in-Some.is new.policy) c.from_split.ensures.whole in
+    IfErr-weaker c.from_split.result _ _ (λ fault why. fault_of_split c.args.slot_map.now names args split.routes routes joins fault why) c.from_split.ensures.fault

@@ -1,5 +1,5 @@
 -- What the targets of a command answered.
-use Rattle.std.specs.Prelude.{List, [], ◌∷◌, Option, Some, None, Result, Ok, Err, codes, filter_map, option_map}
+use Rattle.std.specs.Prelude.{List, [], ◌∷◌, Option, Some, None, Result, Ok, Err, codes, filter_map, map, option_map}
 use Rattle.std.specs.List.{last_or}
 use Rattle.std.specs.Result.{result_err, result_ok}
 use Rattle.resp_core.specs.Answer.{Answer, answer_of}
@@ -11,6 +11,10 @@ use Rattle.resp_core.specs.declared.value.Value.{Value}
 -- the answers of those that have answered
 abbrev pub answers_given : List (Option (Result Value ErrorParts)) → List Answer
 answers_given told = filter_map (option_map answer_of) told
+
+-- each target answered a value, and these are they
+abbrev pub values_told : List Value → List (Option (Result Value ErrorParts))
+values_told values = map (λ value. Some (Ok value)) values
 
 -- the error if one of them is missing
 abbrev pub missing_answer : ErrorParts

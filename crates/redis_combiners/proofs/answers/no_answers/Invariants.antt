@@ -1,5 +1,5 @@
 use Rattle.std.proofs.Common.{◌≡◌, None, replicate}
-use Rattle.redis_commands.proofs.answers.no_answers.Given as goal
+use Rattle.redis_combiners.proofs.answers.no_answers.Given as goal
 
 abbrev pub invariant-loop : goal.invariant-loop
 invariant-loop l = l.answers.items ≡ replicate l.counter None
