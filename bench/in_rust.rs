@@ -157,6 +157,11 @@ fn nodes_of(map: &SlotMap) -> HashSet<&NodeAddress> {
     nodes
 }
 
+#[inline(never)]
+fn primaries_of(map: &SlotMap) -> HashSet<&NodeAddress> {
+    map.values().map(|range| &range.primary).collect()
+}
+
 #[allow(dead_code)]
 struct Shard {
     ranges: Vec<(u16, u16)>,
@@ -453,6 +458,58 @@ fn time_route(words: &[&[u8]], only_reads: impl Fn(&[u8]) -> bool) {
                 u16::from(policy.is_some())
             }
             _ => 0,
+        },
+    );
+}
+
+/// Names of commands whose replies a policy makes one.
+const WITH_POLICY: [&[u8]; 16] = [
+    b"DEL",
+    b"MSET",
+    b"MGET",
+    b"EXISTS",
+    b"PING",
+    b"DBSIZE",
+    b"KEYS",
+    b"UNLINK",
+    b"TOUCH",
+    b"FLUSHALL",
+    b"INFO",
+    b"WAIT",
+    b"RANDOMKEY",
+    b"SCRIPT LOAD",
+    b"CONFIG SET",
+    b"LATENCY HISTOGRAM",
+];
+
+/// Names of commands that go to one node.
+const WITHOUT_POLICY: [&[u8]; 16] = [
+    b"GET",
+    b"SET",
+    b"HGET",
+    b"HSET",
+    b"LPUSH",
+    b"INCR",
+    b"EXPIRE",
+    b"ZADD",
+    b"SADD",
+    b"ZRANGE",
+    b"HGETALL",
+    b"TTL",
+    b"LRANGE",
+    b"APPEND",
+    b"XADD",
+    b"GETRANGE",
+];
+
+/// The policy of each of 16 names in turn.
+fn time_policy(names: &[&[u8]; 16]) {
+    let mut turn = 0;
+    time(
+        || (),
+        |()| {
+            turn += 1;
+            policy(black_box(names)[turn & 15])
         },
     );
 }
@@ -766,6 +823,11 @@ fn time_nodes(size: usize) {
     );
 }
 
+fn time_primaries(size: usize) {
+    let map = map_of(ranges(Hosts::Shared, size));
+    time(|| (), |()| primaries_of(&map).len());
+}
+
 fn time_topology(hosts: Hosts, size: usize) {
     let map = map_of(ranges(hosts, size));
     time(|| (), |()| topology_of(&map));
@@ -793,12 +855,15 @@ fn main() {
         "topology" => time_topology(Hosts::Shared, size),
         "topology-own" => time_topology(Hosts::Own, size),
         "topology-one-hash" => time_topology(Hosts::OneHash, size),
+        "primaries" => time_primaries(size),
         "nodes-own" => time_all_nodes(Hosts::Own, size),
         "nodes-one-hash" => time_all_nodes(Hosts::OneHash, size),
         "read-only-names" => time_names(size, |number| format!("MOD{}.CMD{number}", number % 50)),
         "read-only-names-one-spot" => {
             time_names(size, |number| format!("PICKED{number:06}ABCDEFGHIJ"));
         }
+        "policy" => time_policy(&WITH_POLICY),
+        "policy-none" => time_policy(&WITHOUT_POLICY),
         "route-get" => time_route(&[b"GET", &vec![b'k'; size]], only_reads),
         "route-get-by-set" => {
             let set = read_only_set();

@@ -4,7 +4,7 @@ use crate::given::{Given, command_of, read_only_of};
 use crate::watch::Watch;
 use memory_nodes::MemoryNodes;
 use redis_cluster::driver::drive;
-use redis_cluster::routing::{RoutingInfo, SingleNodeRoutingInfo, SplitCommand};
+use redis_cluster::routing::{ResponsePolicy, RoutingInfo, SingleNodeRoutingInfo, SplitCommand};
 use redis_commands::CommandPlan;
 use resp_core::{Cmd, Value};
 use std::alloc::{AllocError, Global};
@@ -24,6 +24,16 @@ pub fn looked_up(watch: &mut Watch<'_>, given: &Given<'_>) -> Result<(), Fault> 
             None => Err(Fault::Refused),
         }
     })
+}
+
+/// The policy of each of 16 names in turn.
+pub fn policy(given: &Given<'_>, turn: usize) -> Result<usize, Fault> {
+    let name = given.words.get(turn & 15).ok_or(Fault::Refused)?;
+    match ResponsePolicy::for_command(name) {
+        Some(ResponsePolicy::AllSucceeded) => Ok(2),
+        Some(_) => Ok(1),
+        None => Ok(0),
+    }
 }
 
 /// The slot that a command of one key goes to.

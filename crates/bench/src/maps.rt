@@ -74,3 +74,8 @@ pub fn topology(given: &Given<'_>, turn: usize) -> Result<usize, Fault> {
 pub fn nodes(given: &Given<'_>, _turn: usize) -> Result<usize, Fault> {
     Ok(given.map.addresses_for_all_nodes(given.alloc)?.len())
 }
+
+/// All primaries of a map.
+pub fn primaries(given: &Given<'_>, _turn: usize) -> Result<usize, Fault> {
+    Ok(given.map.addresses_for_all_primaries(given.alloc)?.len())
+}

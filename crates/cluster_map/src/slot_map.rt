@@ -88,6 +88,8 @@ impl SlotAddrs {
         &self.replicas
     }
 
+    /// The nodes that may serve a read: the replicas, then the primary unless a replica is
+    /// required. None for a route to the primary.
     fn fallback(&self, alloc: Global, slot_addr: SlotAddr) -> Result<Vec<NodeAddress>, AllocError>
         ensures { IfOk result (λ addresses. addresses.items ≡ fallback self.now slot_addr) }
     {

@@ -45,6 +45,7 @@ pub fn parse_slots(alloc: Global, reply: &Value, answering: &str) -> RedisResult
     Ok(ranges)
 }
 
+/// The ranges of the leading arrays of a reply. Those without a node are left out.
 fn read_ranges(
     alloc: Global,
     items: &[Value],
@@ -65,6 +66,7 @@ fn read_ranges(
     Ok(ranges)
 }
 
+/// The range of one array: its first and last slot, its primary, its replicas.
 fn read_range(
     alloc: Global,
     elements: &[Value],
@@ -111,6 +113,7 @@ fn read_nodes(
     Ok(found)
 }
 
+/// The address of one node. `answering` is its host if the reply has none.
 fn read_node(
     alloc: Global,
     node: &Value,
@@ -177,6 +180,7 @@ fn is_unspecified(text: &str) -> bool
     text.is_empty() || text == "0.0.0.0" || text == "::"
 }
 
+/// A number from 0 to 65535.
 fn read_u16(number: &Value) -> Option<u16>
     ensures { result ≡ u16_of (view number.now) }
 {

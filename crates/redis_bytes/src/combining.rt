@@ -11,7 +11,7 @@ ghost use Rattle.redis_bytes.specs.Requests.{IsSplitRequest};
 ghost use Rattle.redis_bytes.specs.Replies.{AreReplies, AreCombined, IsUnjoined, IsUncombined, IsWritable};
 
 use crate::fault::BytesFault;
-use crate::merging::merged;
+use crate::merging::merge_arrays;
 use crate::places::places_in;
 use crate::replies::replies_in;
 use crate::requests::request_in;
@@ -56,11 +56,11 @@ pub fn combine(
     let Some(split) = SplitCommand::new(alloc, &command, names)? else {
         return Err(BytesFault::NotMultiKey);
     };
-    joined(alloc, &split, replies)
+    join_parts(alloc, &split, replies)
 }
 
 /// The one reply to a split command, by the bytes of the replies to its parts.
-fn joined<R: Routable>(
+fn join_parts<R: Routable>(
     alloc: Global,
     split: &SplitCommand<'_, R>,
     replies: &[u8],
@@ -72,14 +72,14 @@ fn joined<R: Routable>(
         (λ fault. fault ≡ BytesFault.Memory) }
     ensures fault { IfErr result (λ fault. IsUnjoined split.now replies.now fault) }
 {
-    match moved(alloc, split, replies)? {
+    match move_items(alloc, split, replies)? {
         Some(one) => Ok(one),
-        None => by_values(alloc, split, replies),
+        None => join_values(alloc, split, replies),
     }
 }
 
 /// The one reply to a split command, by the values of the replies to its parts.
-fn by_values<R: Routable>(
+fn join_values<R: Routable>(
     alloc: Global,
     split: &SplitCommand<'_, R>,
     replies: &[u8],
@@ -93,13 +93,13 @@ fn by_values<R: Routable>(
 {
     let values = replies_in(alloc, split.routes().len(), replies)?;
     match join_replies(alloc, split, values) {
-        Ok(one) => written(alloc, &one),
-        Err(error) => Err(unfit(&error)),
+        Ok(one) => write_reply(alloc, &one),
+        Err(error) => Err(fault_of(&error)),
     }
 }
 
 /// The one reply to a split command for a list, if the items of the replies can be moved as bytes.
-fn moved<R: Routable>(
+fn move_items<R: Routable>(
     alloc: Global,
     split: &SplitCommand<'_, R>,
     replies: &[u8],
@@ -111,14 +111,14 @@ fn moved<R: Routable>(
     match split.policy() {
         ResponsePolicy::CombineArrays => {
             let places = places_in(alloc, split)?;
-            merged(alloc, split.len(), &places, replies)
+            merge_arrays(alloc, split.len(), &places, replies)
         }
         _ => Ok(None),
     }
 }
 
 /// The bytes of the one reply.
-fn written(alloc: Global, one: &Value) -> Result<Vec<u8>, BytesFault>
+fn write_reply(alloc: Global, one: &Value) -> Result<Vec<u8>, BytesFault>
     requires form { IsWritable (view one.now) }
     ensures bytes { IfOk result (λ bytes. bytes.items ≡ form (view one.now)) }
     ensures memory { IfErr result (λ fault. fault ≡ BytesFault.Memory) }
@@ -131,7 +131,7 @@ fn written(alloc: Global, one: &Value) -> Result<Vec<u8>, BytesFault>
 }
 
 /// The fault of replies that are not joined.
-fn unfit(error: &RedisError) -> BytesFault
+fn fault_of(error: &RedisError) -> BytesFault
     ensures { ((error.now.kind ≡ ErrorKind.OutOfMemory) × (result ≡ BytesFault.Memory))
         ⊎ ((error.now.kind ≢ ErrorKind.OutOfMemory)
         × (result ≡ BytesFault.Unfit error.now.kind)) }

@@ -15,7 +15,7 @@ struct Arrays<'a> {
 /// One array of the items of `count` arrays, which the bytes are. `places` has for each item of it
 /// the number of its array, and no item is read as a value. `None` if the arrays hold more than bulk
 /// strings and nils, are not as `write` writes them, or do not have the items that are asked for.
-pub(super) fn merged(
+pub(super) fn merge_arrays(
     alloc: Global,
     count: usize,
     places: &[usize],

@@ -53,7 +53,7 @@ pub fn split(alloc: Global, request: &[u8], names: Names<'_>) -> Result<Parts, B
     Ok(parts_of(alloc, &split, &command, request.len())?)
 }
 
-/// The parts of a split command, which have about so many bytes.
+/// The parts of a split command, which have about `room` bytes.
 fn parts_of(
     alloc: Global,
     split: &SplitCommand<'_, Request<'_>>,
@@ -63,44 +63,19 @@ fn parts_of(
     requires { split.now.arguments ≡ map Some command.now }
     ensures { IfOk result (λ parts. AreParts split.now parts) }
 {
-    let routes = routes_in(alloc, split.routes())?;
+    let mut routes = Vec::with_capacity(alloc, split.len())?;
+    let mut ends = Vec::with_capacity(alloc, split.len())?;
     let mut bytes = Vec::with_capacity(alloc, room)?;
-    let ends = push_parts(alloc, &mut bytes, split, command)?;
+    for number in 0..split.len() {
+        push_part(&mut bytes, split, command, number)?;
+        routes.push(split.routes()[number].0)?;
+        ends.push(bytes.len())?;
+    }
     Ok(Parts {
         routes,
         ends,
         bytes,
     })
-}
-
-fn routes_in(alloc: Global, routes: &[(Route, Vec<usize>)]) -> Result<Vec<Route>, AllocError>
-    ensures { IfOk result (λ found. found.items ≡ map (λ r. r.0) (route_lists routes.now)) }
-{
-    let mut found = Vec::with_capacity(alloc, routes.len())?;
-    for (route, _) in routes {
-        found.push(*route)?;
-    }
-    Ok(found)
-}
-
-/// Writes the requests of the parts of a command, one after the other, and returns where each ends.
-fn push_parts(
-    alloc: Global,
-    out: &mut Vec<u8>,
-    split: &SplitCommand<'_, Request<'_>>,
-    command: &Request<'_>,
-) -> Result<Vec<usize>, AllocError>
-    requires empty { out.old.items ≡ [] }
-    requires command { split.now.arguments ≡ map Some command.now }
-    ensures { IfOk result (λ ends.
-        AreWritten (map (split_part split.now) (slots_of split.now.routes)) ends.items out.new.items) }
-{
-    let mut ends = Vec::with_capacity(alloc, split.len())?;
-    for number in 0..split.len() {
-        push_part(out, split, command, number)?;
-        ends.push(out.len())?;
-    }
-    Ok(ends)
 }
 
 /// Appends the request of a part of a split command, by the number of its route. Of `DEL foo bar`

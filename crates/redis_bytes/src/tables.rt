@@ -156,6 +156,11 @@ fn lines_of(alloc: Global, nodes: &[&NodeAddress]) -> Result<Vec<u8>, BytesFault
     Ok(lines)
 }
 
+/// Appends a node's address and a line feed.
+///
+/// # Errors
+///
+/// `LineFeedInHost` if the host has a line feed, `Memory` if memory runs out.
 fn push_line(alloc: Global, lines: &mut Vec<u8>, node: &NodeAddress) -> Result<(), BytesFault>
     ensures line { OnOk result (lines.new.items ≡ lines.old.items ++ node_line node.now) }
     ensures plain { OnOk result (¬ (Contains node.now.host 10)) }

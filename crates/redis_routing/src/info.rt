@@ -109,6 +109,7 @@ impl Clone for MultipleNodeRoutingInfo {
     }
 }
 
+/// A copy of routes and their lists of indices.
 fn copy_routes(routes: &Vec<(Route, Vec<usize>)>) -> Result<Vec<(Route, Vec<usize>)>, AllocError>
     ensures { IfOk result (λ copies. route_lists copies.items ≡ route_lists routes.now.items) }
 {

@@ -29,7 +29,6 @@ pub(super) enum NameRule {
 
 /// The rule of a command's name, by the tables, and by a registry if there is one. A name takes
 /// memory only where it is longer than each name of the tables.
-#[inline(always)]
 pub(super) fn rule_for<R: Routable>(
     alloc: Global,
     command: &R,
@@ -40,34 +39,51 @@ pub(super) fn rule_for<R: Routable>(
         (IsRuleFor (names_of read_only.now (unwrap_or (option_copied registry.entry) []))
         (R.args command.now)) }
 {
-    let mut room = [0; ROOM];
-    // One call for both names, so that the rule stays in registers.
-    let short = short_name(command, &mut room);
-    let long = match short {
-        Some(_) => None,
-        None => command.command(alloc)?,
+    let (mut room, mut long) = ([0; ROOM], None);
+    let Some(name) = name_in(alloc, command, &mut room, &mut long)? else {
+        return Ok(NameRule::Whole(Some(RouteBy::Undefined), None, false));
     };
-    let name = match (short, &long) {
-        (Some(len), _) => &room[..len],
-        (None, Some(name)) => name.as_slice(),
-        (None, None) => return Ok(NameRule::Whole(Some(RouteBy::Undefined), None, false)),
-    };
-    Ok(rule_of_name(command, name, read_only, registry))
+    let (route_by, policy) = find_routing(name, registry);
+    Ok(rule_by(command, name, read_only, registry, route_by, policy))
 }
 
-/// As `rule_for` has it for a command of the name.
+/// The name of a command, in the room if it is short, and else in memory.
 #[inline(always)]
-fn rule_of_name<R: Routable>(
+pub(super) fn name_in<'n, R: Routable>(
+    alloc: Global,
+    command: &R,
+    room: &'n mut [u8],
+    long: &'n mut Option<Vec<u8>>,
+) -> Result<Option<&'n [u8]>, AllocError>
+    ensures { IfOk result (λ name. option_copied name ≡ command_name (R.args command.now)) }
+{
+    if let Some(len) = short_name(command, room) {
+        return Ok(Some(&room[..len]));
+    }
+    *long = command.command(alloc)?;
+    Ok(long.as_deref())
+}
+
+/// The rule of a command's name, by how the name is routed and by its policy.
+#[inline(always)]
+pub(super) fn rule_by<R: Routable>(
     command: &R,
     name: &[u8],
     read_only: &ReadOnlyNames,
     registry: Option<&Registry>,
+    route_by: Option<RouteBy>,
+    policy: Option<ResponsePolicy>,
 ) -> NameRule
     requires name { Some name.now ≡ command_name (R.args command.now) }
+    requires routing { route_by
+        ≡ (tables_with (unwrap_or (option_copied registry) [])).route_by name.now }
+    requires policy { policy
+        ≡ (tables_with (unwrap_or (option_copied registry) [])).policy name.now }
+    requires split { TellsSplit (split_of (unwrap_or (option_copied registry) []) name.now)
+        route_by policy }
     ensures { IsRuleFor (names_of read_only.now (unwrap_or (option_copied registry.entry) []))
         (R.args command.now) result }
 {
-    let (route_by, policy) = looked_up(name, registry);
     match route_by {
         Some(RouteBy::MultiSlot(pattern)) => {
             let Some(policy) = policy else { unreachable!() };
@@ -94,7 +110,10 @@ fn reads(name: &[u8], read_only: &ReadOnlyNames, route_by: Option<RouteBy>) -> b
 
 /// How the name is routed, and its policy, by the tables, and by a registry if there is one.
 #[inline(always)]
-fn looked_up(name: &[u8], registry: Option<&Registry>) -> (Option<RouteBy>, Option<ResponsePolicy>)
+pub(super) fn find_routing(
+    name: &[u8],
+    registry: Option<&Registry>,
+) -> (Option<RouteBy>, Option<ResponsePolicy>)
     ensures routing { result.0
         ≡ (tables_with (unwrap_or (option_copied registry.entry) [])).route_by name.now }
     ensures policy { result.1

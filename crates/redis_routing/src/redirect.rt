@@ -72,6 +72,7 @@ fn slot_and_node<'a>(text: &'a str, answering: &'a str) -> Option<(Slot, &'a str
     Some((slot, host, port))
 }
 
+/// The slot that a text writes in decimal digits, without a plus.
 fn slot_in(text: &str) -> Option<Slot>
     ensures { MatchOption result ((slot : ℕ) → ¬ (IsSlotText text.now slot))
         (λ slot. IsSlotText text.now slot) }
@@ -82,6 +83,7 @@ fn slot_in(text: &str) -> Option<Slot>
     Slot::new(parse_u16(text.as_bytes())?)
 }
 
+/// The host and the port that a text names. A text with a port alone has the host `answering`.
 fn node_in<'a>(text: &'a str, answering: &'a str) -> Option<(&'a str, u16)>
     ensures { MatchOption result
         ((host : List ℕ) (port : ℕ) → ¬ (IsNodeText answering.now text.now host port))

@@ -94,6 +94,7 @@ impl Routable for Value {
     }
 }
 
+/// Whether the argument is there and has the word, in any ASCII case.
 fn is_candidate(arg: Option<&[u8]>, candidate: &[u8]) -> bool
     ensures { result ≡ is_word candidate.now (option_copied arg.entry) }
 {

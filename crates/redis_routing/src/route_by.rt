@@ -43,7 +43,7 @@ pub fn base_routing(name: &[u8]) -> Option<RouteBy>
 
 /// How commands of a name are routed, as `base_routing` has it, and how the replies to them make
 /// one, as `ResponsePolicy::for_command` has it: one look-up for both.
-#[inline]
+#[inline(always)]
 pub fn routing_and_policy(name: &[u8]) -> (Option<RouteBy>, Option<ResponsePolicy>)
     ensures routing { result.0 ≡ base_routing name.now }
     ensures policy { result.1 ≡ policy_of name.now }
@@ -54,7 +54,8 @@ pub fn routing_and_policy(name: &[u8]) -> (Option<RouteBy>, Option<ResponsePolic
     }
 }
 
-/// What the tables say of a name.
+/// What the tables say of a name. It is inlined, so that what a caller does not read is not loaded.
+#[inline(always)]
 fn in_tables(name: &[u8]) -> Option<(RouteBy, Option<ResponsePolicy>)>
     ensures routing { option_and_then (λ row. Some row.0) result ≡ base_routing name.now }
     ensures policy { option_and_then (λ row. row.1) result ≡ policy_of name.now }

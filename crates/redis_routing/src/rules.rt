@@ -1,18 +1,17 @@
-ghost use Rattle.std.specs.Prelude.{◌≡◌, ◌<◌, ◌^◌, ◌+◌, IfOk, [], None, Some, true, is_some, option_map, option_copied, unwrap_or, codes, position};
+ghost use Rattle.std.specs.Prelude.{◌≡◌, ◌<◌, ◌^◌, ◌+◌, IfOk, [], None, Some, option_map, option_copied, unwrap_or, codes, position};
 ghost use Rattle.redis_routing.specs.Command.{Arguments, IsRespelt, argument, command_name, is_word};
-ghost use Rattle.redis_routing.specs.Inner.NameRule.{destination_routing};
+ghost use Rattle.redis_routing.specs.Inner.NameRule.{IsRuleFor, destination_routing};
 ghost use Rattle.redis_routing.specs.Laws.{Covers, ArePartsPicked, ArePartsRouted, IfSplit};
 ghost use Rattle.redis_routing.specs.RouteBy.{pattern_of};
 ghost use Rattle.redis_routing.specs.Routed.{group_nodes};
 ghost use Rattle.redis_routing.specs.RoutingInfo.{as_routing, multi_node, one_node, single_node, specific_node};
-ghost use Rattle.redis_routing.specs.Names.{names_of};
+ghost use Rattle.redis_routing.specs.Names.{Names, names_of};
 ghost use Rattle.redis_routing.specs.NameWords.{name_words_of};
-ghost use Rattle.redis_routing.specs.Routing.{routing, routing_by, routing_of_routes, to_slots, to_key, to_key_or_any, to_key_after, to_slot, by_count, argument_number};
-ghost use Rattle.redis_routing.specs.Policies.{joins_parts};
+ghost use Rattle.redis_routing.specs.Routing.{routing, routing_by, routing_of_routes, to_key, to_key_or_any, to_key_after, to_slot, by_count, argument_number};
 ghost use Rattle.redis_routing.specs.PresentArguments.{present_arguments};
 
 use super::info::{MultipleNodeRoutingInfo, RoutingInfo, SingleNodeRoutingInfo, nodes_for};
-use super::name_rule::{NameRule, rule_for};
+use super::name_rule::{NameRule, find_routing, name_in, rule_by};
 use super::routed::{NodeGroup, Routed};
 use super::split_command::SplitCommand;
 use super::splitting::routing_of_routes;
@@ -21,7 +20,8 @@ use crate::read_only::ReadOnlyNames;
 use crate::registry::Registry;
 use crate::routable::Routable;
 use crate::route_by::RouteBy;
-use cluster_slots::{MultiSlotArgPattern, Route, Slot, SlotAddr, parse_u16, parse_u64};
+use crate::words::ROOM;
+use cluster_slots::{Route, Slot, SlotAddr, parse_u16, parse_u64};
 use std::alloc::{AllocError, Global};
 
 impl RoutingInfo {
@@ -113,35 +113,39 @@ fn for_command<R: Routable>(
         ≡ routing (names_of read_only.now (unwrap_or (option_copied registry.entry) []))
         (R.args command.now)) }
 {
-    let rule = rule_for(alloc, command, read_only, registry)?;
-    // Each route is made in place by a return of its own, and not copied.
-    let (route_by, policy, reads) = match rule {
-        NameRule::Split(pattern, policy, reads) => {
-            return by_slots(alloc, command, pattern, policy, reads);
-        }
-        NameRule::Whole(route_by, policy, reads) => (route_by, policy, reads),
+    let (mut room, mut long) = ([0; ROOM], None);
+    let Some(name) = name_in(alloc, command, &mut room, &mut long)? else {
+        return Ok(None);
     };
-    let destination = destination_of(command, route_by, policy, reads);
-    if let Destination::One(Some(Some(route))) = destination {
-        return Ok(Some(to_specific_node(route)));
+    let (route_by, policy) = find_routing(name, registry);
+    // Most names have no row. The route of their key is made in place, and no rule.
+    if route_by.is_none() {
+        if let Some(key) = command.arg_idx(1) {
+            let reads = read_only.contains(name);
+            return Ok(Some(to_specific_node(Route::with_key(key, nodes_for(reads)))));
+        }
     }
-    Ok(to_nodes(destination))
+    let rule = rule_by(command, name, read_only, registry, route_by, policy);
+    by_rule(alloc, command, rule)
 }
 
-/// Where a command goes that is split, by its pattern and its policy.
+/// Where a command goes by the rule of its name.
 #[inline(never)]
-fn by_slots<R: Routable>(
+fn by_rule<R: Routable>(
     alloc: Global,
     command: &R,
-    pattern: MultiSlotArgPattern,
-    policy: ResponsePolicy,
-    reads: bool,
+    rule: NameRule,
 ) -> Result<Option<RoutingInfo>, AllocError>
-    requires name { is_some (command_name (R.args command.now)) ≡ true }
-    requires joins { joins_parts policy ≡ true }
-    ensures { IfOk result (λ info. option_map as_routing info
-        ≡ to_slots reads (Some policy) pattern (present_arguments (R.args command.now))) }
+    requires { (names : Names) × IsRuleFor names (R.args command.now) rule }
+    ensures { (names : Names) → IsRuleFor names (R.args command.now) rule
+        → IfOk result (λ info. option_map as_routing info ≡ routing names (R.args command.now)) }
 {
+    let (pattern, policy, reads) = match rule {
+        NameRule::Split(pattern, policy, reads) => (pattern, policy, reads),
+        NameRule::Whole(route_by, policy, reads) => {
+            return Ok(to_nodes(destination_of(command, route_by, policy, reads)));
+        }
+    };
     match Routed::by_slots(alloc, command, pattern, policy, reads)? {
         Routed::Nowhere => Ok(None),
         Routed::One(node) => Ok(Some(RoutingInfo::SingleNode(node))),
@@ -151,7 +155,6 @@ fn by_slots<R: Routable>(
 }
 
 /// To the node or the nodes of a destination.
-#[inline(never)]
 fn to_nodes(destination: Destination) -> Option<RoutingInfo>
     ensures { option_map as_routing result ≡ destination_routing destination }
 {
@@ -165,6 +168,7 @@ fn to_nodes(destination: Destination) -> Option<RoutingInfo>
     }
 }
 
+/// To a node of the route's slot. It is inlined, so that the routing is made in place.
 #[inline(always)]
 fn to_specific_node(route: Route) -> RoutingInfo
     ensures { as_routing result ≡ single_node (specific_node route) }
@@ -172,6 +176,7 @@ fn to_specific_node(route: Route) -> RoutingInfo
     RoutingInfo::SingleNode(SingleNodeRoutingInfo::SpecificNode(route))
 }
 
+/// To each node of a group, with the policy that joins their replies.
 fn to_several(nodes: NodeGroup, policy: Option<ResponsePolicy>) -> RoutingInfo
     ensures { as_routing result ≡ multi_node (group_nodes nodes) policy }
 {
@@ -241,6 +246,7 @@ pub(super) fn to_key(key: Option<&[u8]>, reads: bool) -> Option<Option<Route>>
     Some(Some(Route::with_key(key?, nodes_for(reads))))
 }
 
+/// To a node of the key's slot, or to any node if there is no key.
 #[inline(always)]
 fn to_key_or_any(key: Option<&[u8]>, reads: bool) -> Option<Option<Route>>
     ensures { one_node result ≡ to_key_or_any reads (option_copied key.entry) }
@@ -265,6 +271,7 @@ fn by_count<R: Routable>(command: &R, place: usize, reads: bool) -> Option<Optio
     to_key(command.arg_idx(place + 1), reads)
 }
 
+/// By the first key after the word `STREAMS`.
 fn after_streams<R: Routable>(command: &R, reads: bool) -> Option<Option<Route>>
     ensures { one_node result ≡ to_key_after reads (R.args command.now)
         (position (is_word (codes "STREAMS")) (R.args command.now)) }

@@ -114,6 +114,7 @@ fn args_len<R: Routable>(original: &R, words: usize, indices: &[usize]) -> usize
     len
 }
 
+/// The bytes of an argument, 0 if it is a gap or missing.
 fn arg_len(arg: Option<&[u8]>) -> usize
     ensures { result ≡ text_len (option_copied arg.entry) }
 {
@@ -150,6 +151,7 @@ fn behind_name<R: Routable>(original: &R, words: usize, index: usize) -> Option<
     original.arg_idx(index.saturating_add(words))
 }
 
+/// The error of a name or an index without an argument.
 fn missing_argument() -> RedisError
     ensures { result.kind ≡ Client }
 {

@@ -138,6 +138,7 @@ pub(super) fn routed_of(info: &Option<RoutingInfo>) -> Routed
     }
 }
 
+/// The numbers of a routing to one node.
 fn to_one(single: &SingleNodeRoutingInfo) -> Routed
     ensures { result ≡ to_one (as_single_node single.now) }
 {
@@ -156,6 +157,7 @@ fn to_one(single: &SingleNodeRoutingInfo) -> Routed
     }
 }
 
+/// The numbers of a routing to several nodes, with the number of the policy.
 fn to_several(multiple: &MultipleNodeRoutingInfo, policy: u32) -> Routed
     ensures { (of : Option declared.ResponsePolicy) → policy ≡ policy_number of
         → result ≡ to_several (as_multiple_nodes multiple.now) of }
@@ -178,6 +180,7 @@ fn numbers(kind: u32, slot: u32, addr: u32, policy: u32) -> Routed
     }
 }
 
+/// The number of which nodes of a slot may serve a command.
 fn addr_number(addr: SlotAddr) -> u32
     ensures { result ≡ addr_number addr }
 {
@@ -188,6 +191,7 @@ fn addr_number(addr: SlotAddr) -> u32
     }
 }
 
+/// The number of a policy, 0 if there is none.
 fn policy_number(policy: Option<ResponsePolicy>) -> u32
     ensures { result ≡ policy_number policy }
 {

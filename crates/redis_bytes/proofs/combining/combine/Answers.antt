@@ -36,4 +36,4 @@ returns-clause-unsplit c = λ split reply_form results parts is answered are.
     } in
     let of_words : IsSplitOf names (map Some is.words) own = subst (λ (ws : List (List ℕ)). IsSplitOf names (map Some ws) own) same split_is in
     let one = same_split names (map Some is.words) split own is.split_is of_words in
-    c.joined.ensures.unsplit reply_form results parts (subst (λ (s : Split). ArePartsAnswered s reply_form results parts) one answered) are
+    c.join_parts.ensures.unsplit reply_form results parts (subst (λ (s : Split). ArePartsAnswered s reply_form results parts) one answered) are

@@ -1,5 +1,5 @@
 use Rattle.redis_bytes.proofs.Unsplit.{combined_unsplit}
-use Rattle.redis_bytes.proofs.combining.joined.Goals as goal
+use Rattle.redis_bytes.proofs.combining.join_parts.Goals as goal
 
 pub returns-in-Some-clause-unsplit : goal.returns-in-Some-clause-unsplit
 returns-in-Some-clause-unsplit g c = λ reply_form results parts answered are.

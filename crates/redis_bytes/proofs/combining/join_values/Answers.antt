@@ -4,10 +4,10 @@ use Rattle.std.proofs.lemmas.List.{length-map}
 use Rattle.resp_core.specs.View.{view}
 use Rattle.resp.specs.declared.reading.TheConstants.{MAX_LEVELS}
 use Rattle.redis_bytes.proofs.JoinedForm.{made_formed}
-use Rattle.redis_bytes.proofs.combining.by_values.Goals as goal
+use Rattle.redis_bytes.proofs.combining.join_values.Goals as goal
 
-pub written-requires : goal.written-requires
-written-requires g c =
+pub write_reply-requires : goal.write_reply-requires
+write_reply-requires g c =
     let many : length c.in_ok-values.values.items ≡ length c.args.split.now.routes = grind (arith, common_steps, length-map) in
     record {
       form = made_formed MAX_LEVELS (omega arith) c.args.split.now c.routes.ensures.split (map view c.in_ok-values.values.items) c.in_ok-values.ensures.form (view c.in-Ok.one) (c.in-Ok.ensures.joined many);

@@ -6,7 +6,7 @@ use Rattle.redis_routing.specs.Registry.{policy_or}
 use Rattle.redis_routing.specs.RouteBy.{base_routing}
 use Rattle.redis_routing.proofs.SplitPolicies.{tells_split}
 use Rattle.redis_routing.proofs.TableRows.{policy_unregistered, tables_with-empty}
-use Rattle.redis_routing.proofs.name_rule.looked_up.Goals as goal
+use Rattle.redis_routing.proofs.name_rule.find_routing.Goals as goal
 
 pub returns-in-None-clause-policy : goal.returns-in-None-clause-policy
 returns-in-None-clause-policy c =

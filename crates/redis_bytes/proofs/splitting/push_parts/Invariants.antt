@@ -1,8 +1,0 @@
-use Rattle.std.proofs.Common.{map, take}
-use Rattle.redis_routing.specs.Split.{slots_of, split_part}
-use Rattle.redis_bytes.specs.Requests.{AreWritten}
-use Rattle.redis_bytes.proofs.splitting.push_parts.Given as goal
-
--- the parts of the first slots are written
-abbrev pub invariant-loop-number : goal.invariant-loop-number
-invariant-loop-number l = AreWritten (map (split_part l.split) (take l.number (slots_of l.split.routes))) l.ends.items l.out.items
