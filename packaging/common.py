@@ -36,7 +36,7 @@ def version():
     """The version, which the header, the change log, the wheel and the crate have to agree on."""
     found = {
         HEADER: r'^#define SLOTROUTE_VERSION "(.*)"$',
-        ROOT / "CHANGELOG.md": r"^## (\S+) ",
+        ROOT / "CHANGELOG.md": r"^## (\d\S*) ",
         ROOT / "python" / "pyproject.toml": r'^version = "(.*)"$',
         ROOT / "rust" / "Cargo.toml": r'^version = "(.*)"$',
     }
