@@ -5,7 +5,8 @@
    REFUSED_FROM=N    neither does any later one
    FAILED_READ=N     the read of number N fails, and FAILED_WRITE=N the write
    MOST_BYTES=N      no read or write moves more bytes
-   COUNTS=FILE       where the numbers of requests, reads and writes are written at the end
+   COUNTS=FILE       where the numbers of requests, reads and writes are written at the end, and how
+                     many blocks are not freed
 
    A program that reads its processor time before and after what it measures writes on standard error
    how many requests it made between the first two readings. */
@@ -22,8 +23,10 @@ extern void *__libc_malloc(size_t);
 extern void *__libc_calloc(size_t, size_t);
 extern void *__libc_realloc(void *, size_t);
 extern void *__libc_memalign(size_t, size_t);
+extern void __libc_free(void *);
 
 static unsigned long requests, reads, writes, readings;
+static long blocks; /* given and not freed: exact for one thread */
 static int is_over;
 
 static unsigned long number_in(const char *name) {
@@ -41,23 +44,37 @@ static int is_refused(void) {
     return !is_over && (requests == refused || (refused_from && requests >= refused_from));
 }
 
-void *malloc(size_t size) { return is_refused() ? NULL : __libc_malloc(size); }
+static void *counted(void *block) {
+    blocks += block != NULL;
+    return block;
+}
+
+void *malloc(size_t size) { return is_refused() ? NULL : counted(__libc_malloc(size)); }
 
 void *calloc(size_t count, size_t size) {
-    return is_refused() ? NULL : __libc_calloc(count, size);
+    return is_refused() ? NULL : counted(__libc_calloc(count, size));
 }
 
 void *realloc(void *block, size_t size) {
-    return is_refused() ? NULL : __libc_realloc(block, size);
+    if (is_refused())
+        return NULL;
+    void *given = __libc_realloc(block, size);
+    blocks += (given != NULL) - (block != NULL && (given != NULL || size == 0));
+    return given;
 }
 
 void *aligned_alloc(size_t alignment, size_t size) {
-    return is_refused() ? NULL : __libc_memalign(alignment, size);
+    return is_refused() ? NULL : counted(__libc_memalign(alignment, size));
 }
 
 int posix_memalign(void **block, size_t alignment, size_t size) {
-    *block = is_refused() ? NULL : __libc_memalign(alignment, size);
+    *block = is_refused() ? NULL : counted(__libc_memalign(alignment, size));
     return *block == NULL ? ENOMEM : 0;
+}
+
+void free(void *block) {
+    blocks -= block != NULL;
+    __libc_free(block);
 }
 
 static size_t at_most(size_t size) {
@@ -99,10 +116,11 @@ int clock_gettime(clockid_t clock, struct timespec *time) {
 __attribute__((destructor)) static void tell(void) {
     const char *name = getenv("COUNTS");
     unsigned long made = requests;
+    long left = blocks;
     is_over = 1;
     FILE *file = name ? fopen(name, "w") : NULL;
     if (file) {
-        fprintf(file, "%lu %lu %lu\n", made, reads, writes);
+        fprintf(file, "%lu %lu %lu %ld\n", made, reads, writes, left);
         fclose(file);
     }
 }

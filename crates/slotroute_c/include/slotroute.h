@@ -1,5 +1,6 @@
 /* Routing for Redis Cluster, proved: the interface for C. The code behind each function here was
- * proved to do what docs/C.md says of it, for every input.
+ * proved against its contract, for every input that a caller may pass. docs/C.md says what is only
+ * tested: the stack that a call takes, null pointers, and that a call frees what it asked for.
  *
  * Requests and replies are the bytes of the Redis protocol, version 2 (RESP2); a request is an
  * array of bulk strings, as clients send it. Nothing is kept between calls: what a call needs is
