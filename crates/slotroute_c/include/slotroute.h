@@ -84,7 +84,8 @@ uint16_t slotroute_slot(const uint8_t *key, size_t key_len);
 uint32_t slotroute_request_len(const uint8_t *bytes, size_t bytes_len, slotroute_told *told);
 
 /* Writes the length of the first reply, which may be an error, to told->bytes. The reply is of RESP2
- * or RESP3. Takes no memory. If the reply is at fault, told->reply is 0. */
+ * or RESP3; streamed types are malformed. Takes no memory. If the reply is at fault, told->reply is
+ * 0. */
 uint32_t slotroute_reply_len(const uint8_t *bytes, size_t bytes_len, slotroute_told *told);
 
 /* How far slotroute_scan has come in a message. */
@@ -98,8 +99,8 @@ typedef struct slotroute_progress {
  * stopped. All fields of progress are 0 for a new message. bytes begins with the message's first
  * byte at each call, and has all bytes of the earlier calls. Takes no memory. SLOTROUTE_DONE:
  * progress->bytes is the message's length, at least 1. SLOTROUTE_REPLY_INCOMPLETE: call again, with
- * more bytes and the same progress. SLOTROUTE_REPLY_MALFORMED: no bytes complete the message. A
- * request is such a message too, but slotroute_request_len is stricter. */
+ * more bytes and the same progress. SLOTROUTE_REPLY_MALFORMED: no bytes complete the message, or it
+ * is of a streamed type. A request is such a message too, but slotroute_request_len is stricter. */
 uint32_t slotroute_scan(const uint8_t *bytes, size_t bytes_len, slotroute_progress *progress);
 
 /* Where a request goes. */
