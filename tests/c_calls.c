@@ -545,7 +545,8 @@ static int once(int call) {
     case 1: /* redis_batch_bytes::combine_answers resp::read */
         answer = slotroute_combine_answers(SLOTROUTE_MAPS, 2, BYTES(messages[14]), out, sizeof out, &told);
         break;
-    case 2: /* resp::read_request redis_bytes::registry_in redis_bytes::fields_in redis_bytes::register_line */
+    case 2: /* resp::read_request redis_bytes::registry_in redis_bytes::fields_in redis_bytes::register_line
+               redis_bytes::request_in redis_routing::RoutingInfo::for_read */
         answer = slotroute_route(BYTES(messages[2]), BYTES(NAMES), 1, &routed, &told);
         break;
     case 3: /* redis_bytes::split redis_bytes::Request::read redis_bytes::push_part resp::read_args resp::push_bulk */

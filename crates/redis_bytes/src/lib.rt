@@ -15,7 +15,7 @@ mod tables;
 pub use combining::combine;
 pub use fault::BytesFault;
 pub use names::{fields_in, register_line, registry_in};
-pub use requests::Request;
+pub use requests::{Request, request_in};
 pub use routing::route;
 pub use splitting::{Parts, push_part, split};
 pub use tables::{NO_NODE, SLOTS, Table, slot_map, slot_table};

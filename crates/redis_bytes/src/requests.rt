@@ -83,8 +83,13 @@ fn is_word(word: &[u8], candidate: &[u8]) -> bool
     word.eq_ignore_ascii_case(candidate)
 }
 
-/// The one request that the bytes are.
-pub(super) fn request_in(alloc: Global, bytes: &[u8]) -> Result<Request<'_>, BytesFault>
+/// The one request that the bytes are. Its arguments are pieces of the bytes.
+///
+/// # Errors
+///
+/// `Request` if the bytes begin no whole request, `AfterRequest` if bytes follow it. `Memory`
+/// if memory runs out.
+pub fn request_in(alloc: Global, bytes: &[u8]) -> Result<Request<'_>, BytesFault>
     ensures found { IfOk result (λ request. IsRequest request bytes.now) }
     ensures only { (words : Words) → IsRequest words bytes.now
         → MatchResult result (λ request. request ≡ words) (λ fault. fault ≡ BytesFault.Memory) }

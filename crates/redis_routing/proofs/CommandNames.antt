@@ -1,16 +1,12 @@
 -- The name of a command by its first two arguments, and the arguments that it takes.
-use Rattle.std.proofs.Common.{◌≡◌, ℕ, ◌<◌, List, [], ◌∷◌, ◌++◌, Option, Some, None, is_some, true, false, length, option_map, take, refl, arith}
+use Rattle.std.proofs.Common.{◌≡◌, ℕ, ◌<◌, List, [], ◌∷◌, ◌++◌, Option, Some, None, is_some, true, false, length, take, refl, arith}
 use Rattle.std.proofs.lemmas.Grind.{common_steps}
 use Rattle.redis_routing.specs.Upper.{upper}
 use Rattle.redis_routing.specs.TwoWords.{takes_second}
 use Rattle.redis_routing.specs.NameWords.{name_words_of, words_by}
 use Rattle.redis_routing.specs.PresentArguments.{present_arguments}
-use Rattle.redis_routing.specs.Command.{Arguments, HasWords, argument, command_name, name_by}
+use Rattle.redis_routing.specs.Command.{Arguments, HasWords, command_name}
 use Rattle.resp_core.proofs.Cases.{by_test}
-
--- the name of a command, if its first argument is there
-abbrev pub name_from : Arguments → Option (List ℕ) → Option (List ℕ)
-name_from args first = option_map (λ word. name_by (upper word) (option_map upper (argument args 1))) first
 
 -- a command with a name has the words of it
 pub has_words : (args : Arguments) (name : List ℕ) → Some name ≡ command_name args → HasWords (name_words_of args) args

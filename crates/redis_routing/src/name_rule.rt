@@ -1,9 +1,8 @@
 ghost use Rattle.std.specs.Prelude.{◌≡◌, Option, [], Some, IfOk, option_copied, unwrap_or};
 ghost use Rattle.redis_routing.specs.Command.{Arguments, command_name};
-ghost use Rattle.redis_routing.specs.Inner.NameRule.{IsRuleFor};
+ghost use Rattle.redis_routing.specs.Inner.NameRule.{IsRuleFor, names_by, only_reads_in};
 ghost use Rattle.redis_routing.specs.MultiKeyNames.{TellsSplit, split_of};
 ghost use Rattle.redis_routing.specs.Names.{names_of};
-ghost use Rattle.redis_routing.specs.ReadOnly.{is_among};
 ghost use Rattle.redis_routing.specs.Registry.{tables_with};
 ghost use Rattle.redis_routing.specs.Routing.{routing_by};
 ghost use Rattle.redis_routing.specs.declared.policy.ResponsePolicy.{ResponsePolicy};
@@ -27,6 +26,28 @@ pub(super) enum NameRule {
     Whole(Option<RouteBy>, Option<ResponsePolicy>, bool),
 }
 
+/// Which commands only read.
+#[derive(Clone, Copy)]
+pub(super) enum ReadCommands<'a> {
+    /// Those of these names.
+    Named(&'a ReadOnlyNames),
+    /// Each.
+    All,
+}
+
+impl ReadCommands<'_> {
+    /// Whether commands of a name only read.
+    #[inline(always)]
+    pub(super) fn has(self, name: &[u8]) -> bool
+        ensures { result ≡ only_reads_in self.entry name.now }
+    {
+        match self {
+            ReadCommands::Named(names) => names.contains(name),
+            ReadCommands::All => true,
+        }
+    }
+}
+
 /// The rule of a command's name, by the tables, and by a registry if there is one. A name takes
 /// memory only where it is longer than each name of the tables.
 pub(super) fn rule_for<R: Routable>(
@@ -44,7 +65,8 @@ pub(super) fn rule_for<R: Routable>(
         return Ok(NameRule::Whole(Some(RouteBy::Undefined), None, false));
     };
     let (route_by, policy) = find_routing(name, registry);
-    Ok(rule_by(command, name, read_only, registry, route_by, policy))
+    let reads = ReadCommands::Named(read_only);
+    Ok(rule_by(command, name, reads, registry, route_by, policy))
 }
 
 /// The name of a command, in the room if it is short, and else in memory.
@@ -69,7 +91,7 @@ pub(super) fn name_in<'n, R: Routable>(
 pub(super) fn rule_by<R: Routable>(
     command: &R,
     name: &[u8],
-    read_only: &ReadOnlyNames,
+    reads: ReadCommands<'_>,
     registry: Option<&Registry>,
     route_by: Option<RouteBy>,
     policy: Option<ResponsePolicy>,
@@ -81,30 +103,30 @@ pub(super) fn rule_by<R: Routable>(
         ≡ (tables_with (unwrap_or (option_copied registry) [])).policy name.now }
     requires split { TellsSplit (split_of (unwrap_or (option_copied registry) []) name.now)
         route_by policy }
-    ensures { IsRuleFor (names_of read_only.now (unwrap_or (option_copied registry.entry) []))
+    ensures { IsRuleFor (names_by reads.entry (unwrap_or (option_copied registry.entry) []))
         (R.args command.now) result }
 {
     match route_by {
         Some(RouteBy::MultiSlot(pattern)) => {
             let Some(policy) = policy else { unreachable!() };
-            NameRule::Split(pattern, policy, read_only.contains(name))
+            NameRule::Split(pattern, policy, reads.has(name))
         }
-        _ => NameRule::Whole(route_by, policy, reads(name, read_only, route_by)),
+        _ => NameRule::Whole(route_by, policy, only_reads(name, reads, route_by)),
     }
 }
 
 /// Whether commands of a name only read, where that matters. The name is looked up only if a key
 /// tells the node.
 #[inline(always)]
-fn reads(name: &[u8], read_only: &ReadOnlyNames, route_by: Option<RouteBy>) -> bool
+fn only_reads(name: &[u8], reads: ReadCommands<'_>, route_by: Option<RouteBy>) -> bool
     ensures { (policy : Option ResponsePolicy) (args : Arguments)
         → routing_by policy result args route_by
-        ≡ routing_by policy (is_among read_only.now name.now) args route_by }
+        ≡ routing_by policy (only_reads_in reads.entry name.now) args route_by }
 {
     match route_by {
         Some(RouteBy::AllNodes) | Some(RouteBy::AllMasters) => false,
         Some(RouteBy::Undefined) | Some(RouteBy::Random) | Some(RouteBy::SlotAt(_)) => false,
-        _ => read_only.contains(name),
+        _ => reads.has(name),
     }
 }
 

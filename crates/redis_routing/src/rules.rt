@@ -1,17 +1,17 @@
 ghost use Rattle.std.specs.Prelude.{◌≡◌, ◌<◌, ◌^◌, ◌+◌, IfOk, [], None, Some, option_map, option_copied, unwrap_or, codes, position};
 ghost use Rattle.redis_routing.specs.Command.{Arguments, IsRespelt, argument, command_name, is_word};
-ghost use Rattle.redis_routing.specs.Inner.NameRule.{IsRuleFor, destination_routing};
+ghost use Rattle.redis_routing.specs.Inner.NameRule.{IsRuleFor, destination_routing, names_by};
 ghost use Rattle.redis_routing.specs.Laws.{Covers, ArePartsPicked, ArePartsRouted, IfSplit};
 ghost use Rattle.redis_routing.specs.RouteBy.{pattern_of};
 ghost use Rattle.redis_routing.specs.Routed.{group_nodes};
 ghost use Rattle.redis_routing.specs.RoutingInfo.{as_routing, multi_node, one_node, single_node, specific_node};
-ghost use Rattle.redis_routing.specs.Names.{Names, names_of};
+ghost use Rattle.redis_routing.specs.Names.{Names, names_of, names_of_reads};
 ghost use Rattle.redis_routing.specs.NameWords.{name_words_of};
 ghost use Rattle.redis_routing.specs.Routing.{routing, routing_by, routing_of_routes, to_key, to_key_or_any, to_key_after, to_slot, by_count, argument_number};
 ghost use Rattle.redis_routing.specs.PresentArguments.{present_arguments};
 
 use super::info::{MultipleNodeRoutingInfo, RoutingInfo, SingleNodeRoutingInfo, nodes_for};
-use super::name_rule::{NameRule, find_routing, name_in, rule_by};
+use super::name_rule::{NameRule, ReadCommands, find_routing, name_in, rule_by};
 use super::routed::{NodeGroup, Routed};
 use super::split_command::SplitCommand;
 use super::splitting::routing_of_routes;
@@ -65,7 +65,7 @@ impl RoutingInfo {
             pattern routes)
             (option_map as_routing info)) }
     {
-        for_command(alloc, command, read_only, None)
+        for_command(alloc, command, ReadCommands::Named(read_only), None)
     }
 
     /// Where a command goes, as `for_routable` has it, but names that the tables don't have may
@@ -98,7 +98,25 @@ impl RoutingInfo {
             (R.args command.now) pattern routes)
             (option_map as_routing info)) }
     {
-        for_command(alloc, command, read_only, Some(registry))
+        let reads = ReadCommands::Named(read_only);
+        for_command(alloc, command, reads, Some(registry))
+    }
+
+    /// Where a command goes that only reads, whatever its name: as `for_routable_with` has it if the
+    /// name is among those that only read.
+    ///
+    /// # Errors
+    ///
+    /// If memory runs out.
+    pub fn for_read<R: Routable>(
+        alloc: Global,
+        command: &R,
+        registry: &Registry,
+    ) -> Result<Option<RoutingInfo>, AllocError>
+        ensures routed { IfOk result (λ info. option_map as_routing info
+            ≡ routing (names_of_reads registry.now) (R.args command.now)) }
+    {
+        for_command(alloc, command, ReadCommands::All, Some(registry))
     }
 }
 
@@ -106,11 +124,11 @@ impl RoutingInfo {
 fn for_command<R: Routable>(
     alloc: Global,
     command: &R,
-    read_only: &ReadOnlyNames,
+    reads: ReadCommands<'_>,
     registry: Option<&Registry>,
 ) -> Result<Option<RoutingInfo>, AllocError>
     ensures { IfOk result (λ info. option_map as_routing info
-        ≡ routing (names_of read_only.now (unwrap_or (option_copied registry.entry) []))
+        ≡ routing (names_by reads.entry (unwrap_or (option_copied registry.entry) []))
         (R.args command.now)) }
 {
     let (mut room, mut long) = ([0; ROOM], None);
@@ -121,11 +139,11 @@ fn for_command<R: Routable>(
     // Most names have no row. The route of their key is made in place, and no rule.
     if route_by.is_none() {
         if let Some(key) = command.arg_idx(1) {
-            let reads = read_only.contains(name);
-            return Ok(Some(to_specific_node(Route::with_key(key, nodes_for(reads)))));
+            let nodes = nodes_for(reads.has(name));
+            return Ok(Some(to_specific_node(Route::with_key(key, nodes))));
         }
     }
-    let rule = rule_by(command, name, read_only, registry, route_by, policy);
+    let rule = rule_by(command, name, reads, registry, route_by, policy);
     by_rule(alloc, command, rule)
 }
 

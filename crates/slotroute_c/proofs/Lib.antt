@@ -1,2 +1,1 @@
-mod ReadNames
 pub mod Named

@@ -1,7 +1,7 @@
 pub mod Outcomes
 pub mod Buffers
 pub mod Redirected
-pub mod Routed
+pub mod RouteNumbers
 pub mod Faults
 pub mod Fields
 pub mod Named

@@ -7,7 +7,7 @@ use Rattle.redis_bytes.specs.Table.{IsTable}
 use Rattle.redis_bytes.specs.declared.tables.Table.{Table}
 use Rattle.slotroute_c.specs.declared.told.Told.{Told}
 use Rattle.slotroute_c.specs.Fields.{with_sizes}
-use Rattle.slotroute_c.specs.Routed.{addr_of}
+use Rattle.slotroute_c.specs.RouteNumbers.{addr_of}
 
 -- The bytes are one reply, and this is its table. The count of numbers and of bytes is reported.
 pub record IsTableOf (reply answering : List ℕ) (addr pick : ℕ) (old new : Told)

@@ -8,24 +8,23 @@ ghost use Rattle.redis_routing.specs.declared.policy.ResponsePolicy as declared;
 ghost use Rattle.redis_routing.specs.Routing.{routing};
 ghost use Rattle.redis_routing.specs.RoutingInfo.{as_routing, as_single_node, as_multiple_nodes};
 ghost use Rattle.slotroute_c.specs.Named.{FailsBy, WithNames};
-ghost use Rattle.slotroute_c.specs.Routed.{AreNamesFor, names_for, routed, routed_of, routed_by, to_one, to_several, addr_number, policy_number, addr_of};
+ghost use Rattle.slotroute_c.specs.RouteNumbers.{names_for, routed, routed_of, routed_by, to_one, to_several, addr_number, policy_number, addr_of};
 
 use crate::faults::code_of;
 use crate::outcomes::Outcome;
 use crate::told::Told;
 use cluster_slots::SlotAddr;
-use redis_bytes::{BytesFault, Request, registry_in};
+use redis_bytes::{BytesFault, registry_in, request_in};
 use redis_routing::{
-    AggregateOp, LogicalAggregateOp, MultipleNodeRoutingInfo, Names, ReadOnlyNames, ResponsePolicy,
-    Routable, RoutingInfo, SingleNodeRoutingInfo,
+    AggregateOp, LogicalAggregateOp, MultipleNodeRoutingInfo, ReadOnlyNames, ResponsePolicy,
+    RoutingInfo, SingleNodeRoutingInfo,
 };
-use resp::RequestError;
 use std::alloc::Global;
 
 /// Where a request goes, as numbers that `include/slotroute.h` names.
 #[repr(C)]
 #[derive(Clone, Copy)]
-pub struct Routed {
+pub struct RouteNumbers {
     /// The nodes: of one slot, of several, any, or all.
     pub kind: u32,
     /// The slot, if the request goes to one.
@@ -51,7 +50,7 @@ pub extern "C" fn slotroute_route(
     request: &[u8],
     names: &[u8],
     only_reads: u32,
-    routed: &mut Routed,
+    routed: &mut RouteNumbers,
     told: &mut Told,
 ) -> u32
     ensures done { result ≡ code Outcome.Done → (words : Words) × IsRequest words request.now
@@ -85,33 +84,12 @@ fn routing_of(
     ensures fault { IfErr result (FailsBy names.now (λ registered. IsUnread request.now)) }
 {
     let registry = registry_in(alloc, names)?;
-    let read_only = names_for(alloc, request, only_reads)?;
-    let names = Names {
-        read_only: &read_only,
-        registry: &registry,
-    };
-    redis_bytes::route(alloc, request, names)
-}
-
-/// The names that only read: the name of the request's command, if it only reads.
-fn names_for(alloc: Global, request: &[u8], only_reads: u32) -> Result<ReadOnlyNames, BytesFault>
-    ensures names { IfOk result (λ names. AreNamesFor only_reads request.now names) }
-    ensures memory { IfErr result (λ fault. fault ≡ BytesFault.Memory) }
-{
-    let mut names = ReadOnlyNames::new(alloc);
-    if only_reads == 0 {
-        return Ok(names);
+    let command = request_in(alloc, request)?;
+    if only_reads != 0 {
+        return Ok(RoutingInfo::for_read(alloc, &command, &registry)?);
     }
-    let command = match Request::read(alloc, request) {
-        Ok((command, _)) => command,
-        Err(RequestError::Memory) => return Err(BytesFault::Memory),
-        Err(RequestError::Fault(_)) => return Ok(names),
-    };
-    let Some(name) = command.command(alloc)? else {
-        return Ok(names);
-    };
-    names.insert(alloc, &name)?;
-    Ok(names)
+    let none = ReadOnlyNames::new(alloc);
+    Ok(RoutingInfo::for_routable_with(alloc, &command, &none, &registry)?)
 }
 
 /// The node by its number: 0 for the primary, else a replica if there is one.
@@ -126,7 +104,7 @@ pub(super) fn addr_of(number: u32) -> SlotAddr
 }
 
 /// A routing as numbers.
-pub(super) fn routed_of(info: &Option<RoutingInfo>) -> Routed
+pub(super) fn routed_of(info: &Option<RoutingInfo>) -> RouteNumbers
     ensures { result ≡ routed_of (option_map as_routing info.now) }
 {
     match info {
@@ -139,7 +117,7 @@ pub(super) fn routed_of(info: &Option<RoutingInfo>) -> Routed
 }
 
 /// The numbers of a routing to one node.
-fn to_one(single: &SingleNodeRoutingInfo) -> Routed
+fn to_one(single: &SingleNodeRoutingInfo) -> RouteNumbers
     ensures { result ≡ to_one (as_single_node single.now) }
 {
     match single {
@@ -158,7 +136,7 @@ fn to_one(single: &SingleNodeRoutingInfo) -> Routed
 }
 
 /// The numbers of a routing to several nodes, with the number of the policy.
-fn to_several(multiple: &MultipleNodeRoutingInfo, policy: u32) -> Routed
+fn to_several(multiple: &MultipleNodeRoutingInfo, policy: u32) -> RouteNumbers
     ensures { (of : Option declared.ResponsePolicy) → policy ≡ policy_number of
         → result ≡ to_several (as_multiple_nodes multiple.now) of }
 {
@@ -169,10 +147,10 @@ fn to_several(multiple: &MultipleNodeRoutingInfo, policy: u32) -> Routed
     }
 }
 
-fn numbers(kind: u32, slot: u32, addr: u32, policy: u32) -> Routed
+fn numbers(kind: u32, slot: u32, addr: u32, policy: u32) -> RouteNumbers
     ensures { result ≡ routed kind slot addr policy }
 {
-    Routed {
+    RouteNumbers {
         kind,
         slot,
         addr,

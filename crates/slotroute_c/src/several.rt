@@ -6,7 +6,7 @@ ghost use Rattle.slotroute_c.specs.Outcomes.{code};
 ghost use Rattle.slotroute_c.specs.Buffers.{IsWritten};
 ghost use Rattle.slotroute_c.specs.Fields.{with_bytes};
 ghost use Rattle.slotroute_c.specs.Pipelines.{outcome_of_batch, with_batch_fault};
-ghost use Rattle.slotroute_c.specs.Routed.{IsPolicyOf};
+ghost use Rattle.slotroute_c.specs.RouteNumbers.{IsPolicyOf};
 
 use crate::buffers::put_all;
 use crate::outcomes::Outcome;

@@ -6,7 +6,7 @@ ghost use Rattle.redis_bytes.specs.Table.{IsNoTable};
 ghost use Rattle.slotroute_c.specs.Outcomes.{code};
 ghost use Rattle.slotroute_c.specs.Buffers.{IsWritten};
 ghost use Rattle.slotroute_c.specs.Faults.{outcome_of, with_fault};
-ghost use Rattle.slotroute_c.specs.Routed.{addr_of};
+ghost use Rattle.slotroute_c.specs.RouteNumbers.{addr_of};
 ghost use Rattle.slotroute_c.specs.Tables.{IsTableOf};
 
 use crate::buffers::put_all;

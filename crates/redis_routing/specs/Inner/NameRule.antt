@@ -1,10 +1,12 @@
 -- What the name of a command says of where it goes.
-use Rattle.std.specs.Prelude.{◌≡◌, true, Option, None, Some, is_some}
+use Rattle.std.specs.Prelude.{◌≡◌, ℕ, List, Bool, true, Option, None, Some, is_some}
 use Rattle.redis_routing.specs.Command.{Arguments, command_name}
 use Rattle.redis_routing.specs.Complete.{multi_slot_routes, pattern_by_name, routes_by}
 use Rattle.redis_routing.specs.Names.{Names}
 use Rattle.redis_routing.specs.Policies.{joins_parts}
 use Rattle.redis_routing.specs.PresentArguments.{present_arguments}
+use Rattle.redis_routing.specs.ReadOnly.{is_among}
+use Rattle.redis_routing.specs.Registry.{Registrations}
 use Rattle.redis_routing.specs.RouteBy.{pattern_of}
 use Rattle.redis_routing.specs.Routed.{group_nodes}
 use Rattle.redis_routing.specs.Routing.{routing, routing_by, to_slots}
@@ -12,8 +14,18 @@ use Rattle.redis_routing.specs.RoutingInfo.{Routing, multi_node, one_node}
 use Rattle.redis_routing.specs.Split.{policy_by_name}
 use Rattle.redis_routing.specs.declared.name_rule.NameRule.{NameRule}
 use Rattle.redis_routing.specs.declared.name_rule.NameRule.TheVariants.{Split, Whole}
+use Rattle.redis_routing.specs.declared.name_rule.ReadCommands.{ReadCommands}
+use Rattle.redis_routing.specs.declared.name_rule.ReadCommands.TheVariants.{Named, All}
 use Rattle.redis_routing.specs.declared.rules.Destination.{Destination}
 use Rattle.redis_routing.specs.declared.rules.Destination.TheVariants.{One, Several}
+
+-- whether commands of a name only read
+abbrev pub only_reads_in : ReadCommands → List ℕ → Bool
+only_reads_in (Named names) name = is_among names.now name
+only_reads_in All name = true
+
+abbrev pub names_by : ReadCommands → Registrations → Names
+names_by reads registered = record { only_reads = only_reads_in reads; registered = registered }
 
 -- It is the rule of the command's name: the command goes where `routing` says, and is split as its
 -- name tells.

@@ -1,6 +1,6 @@
 use Rattle.std.proofs.Common.{[], option_copied, unwrap_or}
-use Rattle.redis_routing.specs.Names.{names_of}
+use Rattle.redis_routing.specs.Inner.NameRule.{names_by}
 use Rattle.redis_routing.proofs.rules.for_command.Goals as goal
 
 pub returns : goal.returns
-returns g c = c.by_rule.ensures (names_of c.args.read_only.now (unwrap_or (option_copied c.args.registry) [])) c.rule_by-rule.ensures
+returns g c = c.by_rule.ensures (names_by c.args.reads (unwrap_or (option_copied c.args.registry) [])) c.rule_by-rule.ensures

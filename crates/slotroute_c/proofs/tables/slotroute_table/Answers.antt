@@ -2,7 +2,7 @@ use Rattle.std.proofs.Common.{◌≡◌, ◌<◌, ◌⊎◌, ℕ, List, length, 
 use Rattle.cluster_map.specs.ReplyNode.{entries_in}
 use Rattle.cluster_slots.specs.declared.slot.SlotAddr.{SlotAddr}
 use Rattle.redis_bytes.specs.Table.{IsTable}
-use Rattle.slotroute_c.specs.Routed.{addr_of}
+use Rattle.slotroute_c.specs.RouteNumbers.{addr_of}
 use Rattle.slotroute_c.proofs.tables.slotroute_table.Goals as goal
 
 pub returns-then-numbers-len-clause-too_small : goal.returns-then-numbers-len-clause-too_small
