@@ -139,6 +139,18 @@ impl SlotAddrs {
     }
 }
 
+/// The ranges as (start, end, nodes), in order, in a list that has room for all at once.
+fn range_entries(slots: Vec<SlotRange>) -> Result<Vec<(u16, u16, SlotAddrs)>, AllocError>
+    ensures { IfOk result (λ entries. entries.items ≡ map range_entry slots.items) }
+{
+    let mut entries = Vec::with_capacity(*slots.allocator(), slots.len())?;
+    for slot in slots {
+        let (start, end) = (slot.start, slot.end);
+        entries.push((start, end, SlotAddrs::from_slot(slot)))?;
+    }
+    Ok(entries)
+}
+
 /// Which nodes serve which slots of a cluster.
 ///
 /// ```
@@ -194,11 +206,7 @@ impl SlotMap {
         if slots.is_empty() {
             return Ok(());
         }
-        let alloc = *slots.allocator();
-        let ranges = slots
-            .into_iter()
-            .map(|slot| (slot.start, slot.end, SlotAddrs::from_slot(slot)));
-        self.slots.extend(ranges.collect(alloc)?)
+        self.slots.extend(range_entries(slots)?)
     }
 
     /// The map of these ranges, inserted in order. A later range replaces an earlier one with the
