@@ -1,0 +1,2 @@
+mod TableNames
+mod AddedRows
