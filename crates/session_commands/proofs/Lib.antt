@@ -1,2 +1,3 @@
-mod TableNames
 mod AddedRows
+mod PartLists
+mod TableNames

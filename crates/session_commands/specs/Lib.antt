@@ -1,7 +1,11 @@
+pub use Rattle.resp.specs.Forms
 pub use Rattle.redis_routing.specs.Lookup
 pub use Rattle.redis_routing.specs.Names
 pub use Rattle.redis_routing.specs.Registry
 pub use Rattle.redis_routing.specs.Upper
+pub use Rattle.redis_bytes.specs.Requests
 pub mod Added
 pub mod CommandKinds
+pub mod Plans
+pub mod Refusals
 pub mod SharedNames

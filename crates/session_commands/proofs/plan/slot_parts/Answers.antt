@@ -1,0 +1,18 @@
+use Rattle.std.proofs.Common.{◌≡◌, ◌∙◌, ◌∷◌, [], ◌++◌, ℕ, arith, length, subst, sym, ap}
+use Rattle.std.specs.Prelude.{IfSome, slice_get}
+use Rattle.std.proofs.lemmas.Grind.{common_steps}
+use Rattle.session_commands.specs.Plans.{IsPartAt}
+use Rattle.session_commands.proofs.PartLists.{each_more}
+use Rattle.session_commands.proofs.plan.slot_parts.Goals as goal
+
+pub loop-number-preserved : goal.loop-number-preserved
+loop-number-preserved c =
+    let split = c.args.split.now in
+    let parts = c.loop-number.parts.items in
+    let part = c.in_ok-slot_part.field-0 in
+    let here : IsPartAt split (length parts) part = rw c.loop-number.invariant.all c.in_ok-slot_part.ensures in
+    let more = each_more (IsPartAt split) parts part c.loop-number.invariant.each here in
+    record {
+      all = grind (arith, common_steps);
+      each = rw c.in_ok-push.ensures.items more;
+    }
