@@ -9,3 +9,4 @@ pub mod CommandKinds
 pub mod Plans
 pub mod Refusals
 pub mod SharedNames
+pub mod Told

@@ -22,7 +22,7 @@ use session_core::PartOrder;
 use std::alloc::{AllocError, Global};
 
 /// The part of one slot of a command that is split.
-#[derive(Drop)]
+#[derive(Debug, Drop)]
 pub struct SlotPart {
     /// The slot.
     pub slot: u16,
@@ -31,7 +31,7 @@ pub struct SlotPart {
 }
 
 /// The parts that a call asks of nodes.
-#[derive(Drop)]
+#[derive(Debug, Drop)]
 pub enum CallParts {
     /// One: the request as it came. It goes to the primary of its slot, or if it has no slot to any
     /// node.
@@ -43,7 +43,7 @@ pub enum CallParts {
 }
 
 /// What a request asks of nodes.
-#[derive(Drop)]
+#[derive(Debug, Drop)]
 pub struct CallPlan {
     /// Its parts.
     pub parts: CallParts,
