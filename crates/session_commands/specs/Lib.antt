@@ -3,10 +3,12 @@ pub use Rattle.redis_routing.specs.Lookup
 pub use Rattle.redis_routing.specs.Names
 pub use Rattle.redis_routing.specs.Registry
 pub use Rattle.redis_routing.specs.Upper
+pub use Rattle.redis_bytes.specs.Replies
 pub use Rattle.redis_bytes.specs.Requests
 pub mod Added
 pub mod CommandKinds
 pub mod Plans
 pub mod Refusals
 pub mod SharedNames
+pub mod SplitReplies
 pub mod Told

@@ -1,4 +1,4 @@
-use Rattle.std.proofs.Common.{◌≡◌, ◌∙◌, length, arith, rules}
+use Rattle.std.proofs.Common.{◌∙◌, rules}
 use Rattle.session_commands.proofs.TableNames.{no_empty_name, in_a_to_g, in_h_to_i, in_j_to_l, in_m_to_r, in_s_to_u, in_x_to_z}
 use Rattle.session_commands.proofs.kind.is_plain.Goals as goal
 
