@@ -58,7 +58,7 @@ sorted_sets =
     codes "ZREVRANGEBYLEX" ∷ codes "ZREVRANGEBYSCORE" ∷ codes "ZREVRANK" ∷ codes "ZSCAN" ∷
     codes "ZSCORE" ∷ codes "ZUNION" ∷ codes "ZUNIONSTORE" ∷ []
 
--- streams, but for those that may wait
+-- streams, except those that may wait
 abbrev pub streams : List (List ℕ)
 streams =
     codes "XACK" ∷ codes "XADD" ∷ codes "XAUTOCLAIM" ∷ codes "XCLAIM" ∷ codes "XDEL" ∷

@@ -1,5 +1,5 @@
 -- What a caller is told if a call ends with an error of the session.
-use Rattle.std.specs.Prelude.{ℕ, List, ◌++◌, Bool, true, false, codes, if◌then◌else◌}
+use Rattle.std.specs.Prelude.{ℕ, List, ◌++◌, ◌-◌, Bool, true, false, codes, drop, length, take, if◌then◌else◌}
 use Rattle.std.specs.List.{list_all, list_any}
 use Rattle.resp.specs.Forms.{crlf}
 use Rattle.session_commands.specs.declared.told.Effect.{Effect}
@@ -36,3 +36,12 @@ effect_text effects.Unknown = codes "the command may have taken effect"
 
 abbrev pub error_reply : ErrorCause → Effect → List ℕ
 error_reply cause effect = cause_text cause ++ effect_text effect ++ crlf
+
+-- what stands between the mark of an error and the end of its line
+abbrev pub error_text : List ℕ → List ℕ
+error_text error = take (length error - 3) (drop 1 error)
+
+-- `-MOVED 3300 n3:1`, of a part that did not run: `-TRYAGAIN the nodes refused too often: MOVED 3300 n3:1; ..`
+abbrev pub no_tries_reply : List ℕ → Effect → List ℕ
+no_tries_reply refusal effect =
+    codes "-TRYAGAIN the nodes refused too often: " ++ error_text refusal ++ codes "; " ++ effect_text effect ++ crlf

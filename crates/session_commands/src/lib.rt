@@ -15,4 +15,4 @@ pub use kind::{CommandKind, command_kind};
 pub use plan::{CallParts, CallPlan, SlotPart};
 pub use refusal::CallRefusal;
 pub use reply::split_reply;
-pub use told::{Effect, ErrorCause, PartFate, effect_of, error_reply};
+pub use told::{Effect, ErrorCause, PartFate, effect_of, error_reply, no_tries_reply};

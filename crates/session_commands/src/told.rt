@@ -1,6 +1,8 @@
-ghost use Rattle.std.specs.Prelude.{◌≡◌};
+ghost use Rattle.std.specs.Prelude.{◌≡◌, IfOk};
 ghost use Rattle.std.specs.List.{list_all, list_any};
-ghost use Rattle.session_commands.specs.Told.{effect_of, error_reply, is_not_run};
+ghost use Rattle.session_commands.specs.Told.{effect_of, effect_text, error_reply, error_text, is_not_run, no_tries_reply};
+
+use std::alloc::{AllocError, Global};
 
 /// What became of a part of a call that ends with an error of the session.
 #[derive(Clone, Copy, Debug, PartialEq, Eq)]
@@ -65,6 +67,44 @@ fn is_some_not_run(fates: &[PartFate]) -> bool
     ensures { result ≡ list_any is_not_run fates.now }
 {
     fates.iter().any(|fate| matches!(fate, PartFate::NotRun))
+}
+
+/// The reply if a part has no tries left, with the node's last refusal in its text.
+///
+/// # Errors
+///
+/// If memory runs out. Then `error_reply` has a reply that says the same without that text.
+pub fn no_tries_reply(alloc: Global, refusal: &[u8], effect: Effect) -> Result<Vec<u8>, AllocError>
+    ensures { IfOk result (λ reply. reply.items ≡ no_tries_reply refusal.now effect) }
+{
+    let mut reply = Vec::new(alloc);
+    reply.extend_from_slice(b"-TRYAGAIN the nodes refused too often: ")?;
+    reply.extend_from_slice(error_text(refusal))?;
+    reply.extend_from_slice(b"; ")?;
+    reply.extend_from_slice(effect_text(effect))?;
+    reply.extend_from_slice(b"\r\n")?;
+    Ok(reply)
+}
+
+/// The text of an error, without its mark and the end of its line.
+fn error_text(error: &[u8]) -> &[u8]
+    ensures { result.now ≡ error_text error.now }
+{
+    if error.len() < 3 {
+        return &[];
+    }
+    &error[1..error.len() - 2]
+}
+
+/// What an error says of the effect.
+fn effect_text(effect: Effect) -> &'static [u8]
+    ensures { result.now ≡ effect_text effect }
+{
+    match effect {
+        Effect::Nothing => b"the command did not take effect",
+        Effect::InPart => b"a part of the command did not take effect, and others may have",
+        Effect::Unknown => b"the command may have taken effect",
+    }
 }
 
 const OVERTAKEN: [&[u8]; 3] = [
