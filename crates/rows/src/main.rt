@@ -3,6 +3,7 @@
 #![tactic(auto)]
 
 mod addresses;
+mod calls;
 mod commands;
 mod faults;
 mod links;
@@ -15,6 +16,7 @@ mod reads;
 mod routing;
 mod slots;
 
+use crate::calls::CallRows;
 use crate::order::Order;
 use crate::routing::{Known, combiners, pipelines};
 use cluster_map::SlotMap;
@@ -33,6 +35,7 @@ struct Rows {
     pipeline: ClusterPipeline,
     link: Link,
     order: Order,
+    calls: CallRows,
 }
 
 impl Rows {
@@ -57,6 +60,7 @@ impl Rows {
             "plans" => plans::call(&self.map, alloc, name, words),
             "links" => links::call(&mut self.link, alloc, name, words),
             "order" => self.order.call(alloc, name, words),
+            "calls" => self.calls.call(alloc, name, words),
             _ => Err(bad_row("no topic of this name")),
         }
     }
@@ -87,6 +91,7 @@ fn main(rt: HostRuntime) -> ExitCode {
         pipeline: cluster_pipe(alloc),
         link: Link::new(alloc, 0),
         order: Order::new(alloc),
+        calls: CallRows::new(alloc),
     };
     run(&rt, &mut rows)
 }
