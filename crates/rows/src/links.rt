@@ -51,7 +51,7 @@ fn ask(link: &mut Link, alloc: Global, words: &str) -> RedisResult<()> {
 
 /// Notes that bytes were written, if there are so many.
 fn wrote(link: &mut Link, count: usize) -> RedisResult<()> {
-    if link.standing() == Standing::Ended || count > link.unwritten().len() {
+    if link.standing() == Standing::Ended || count > link.count_unwritten() {
         return Err(bad_row("more than is to be written"));
     }
     link.wrote(count);

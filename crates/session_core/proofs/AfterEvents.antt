@@ -1,5 +1,5 @@
 -- What an event leaves of the links and calls.
-use Rattle.std.proofs.Common.{◌≡◌, ◌≢◌, ◌<◌, ◌≤◌, ◌+◌, ◌-◌, ◌++◌, ◌&&◌, ◌⊎◌, inl, inr, ℕ, zero, suc, Bool, true, false, not, eqb, ltb, List, [], ◌∷◌, length, length-append, length-drop, drop, Option, None, Some, refl, sym, ap, ◌∙◌, subst, arith}
+use Rattle.std.proofs.Common.{◌≡◌, ◌≢◌, ◌<◌, ◌≤◌, ◌+◌, ◌-◌, ◌++◌, ◌&&◌, ◌⊎◌, inl, inr, ℕ, zero, suc, Bool, true, false, not, eqb, ltb, List, [], ◌∷◌, length, length-append, length-drop, Option, None, Some, refl, sym, ap, ◌∙◌, subst, arith}
 use Rattle.std.specs.Prelude.{Contains}
 use Rattle.std.proofs.Math.ListN.{set}
 use Rattle.std.specs.List.{slice_get, list_all}
@@ -11,6 +11,7 @@ use Rattle.resp_core.proofs.Cases.{by_test, and_first, and_second}
 use Rattle.session_core.specs.Channel.{Channel}
 use Rattle.session_core.specs.Part.{PartState, Phase, is_done}
 use Rattle.session_core.specs.State.{CallState, State, Event, Open, On, Forget, Begin, GiveUp, End, Finish, Leave, Trim, begun, call_at, numbered, call_after, left_call, unwants, phase_after, May, after, IsTurn}
+use Rattle.session_core.proofs.PlaceLists.{get_before, at_index, get_first_dropped}
 
 -- ---- lists
 
@@ -47,30 +48,16 @@ numbered_one f n (y ∷ xs) (suc i) x is same =
     let rest = numbered_one f (n + 1) xs i x is (λ k z apart. same k z (λ e. apart (e ∙ sym place))) in
     rw (same n y (λ e. omega arith), rest, place) refl
 
-pub get_before : {X : Type 0} (xs ys : List X) (i : ℕ) → i < length xs → slice_get (xs ++ ys) i ≡ slice_get xs i
-get_before [] ys i h = absurd (omega arith)
-get_before (x ∷ xs) ys zero h = refl
-get_before (x ∷ xs) ys (suc i) h = get_before xs ys i (omega arith)
-
 get_last : {X : Type 0} (xs : List X) (x : X) (i : ℕ) → i ≡ length xs → slice_get (xs ++ x ∷ []) i ≡ Some x
 get_last [] x zero h = refl
 get_last [] x (suc i) h = absurd (omega arith)
 get_last (y ∷ xs) x zero h = absurd (omega arith)
 get_last (y ∷ xs) x (suc i) h = get_last xs x i (omega arith)
 
-get_rest : {X : Type 0} (xs : List X) (i : ℕ) → slice_get (drop 1 xs) i ≡ slice_get xs (suc i)
-get_rest [] i = refl
-get_rest (x ∷ xs) i = refl
-
 pub all_at : {X : Type 0} (p : X → Bool) (xs : List X) (i : ℕ) (x : X) → list_all p xs ≡ true → slice_get xs i ≡ Some x → p x ≡ true
 all_at p [] i x all e = absurd (cc)
 all_at p (y ∷ xs) zero x all e = let same : y ≡ x = cc in subst (λ z. p z ≡ true) same (and_first _ _ all)
 all_at p (y ∷ xs) (suc i) x all e = all_at p xs i x (and_second _ _ all) e
-
-some_at : {X : Type 0} (xs : List X) (i : ℕ) → i < length xs → (x : X) × (slice_get xs i ≡ Some x)
-some_at [] i h = absurd (omega arith)
-some_at (x ∷ xs) zero h = (x, refl)
-some_at (x ∷ xs) (suc i) h = some_at xs i (omega arith)
 
 pub seen : {X : Type 0} (o : Option X) → (o ≡ None) ⊎ ((x : X) × (o ≡ Some x))
 seen None = inl refl
@@ -207,7 +194,7 @@ trimmed_at call s c e may =
     let next : suc (call - (s.first + 1)) ≡ call - s.first = omega (arith, later) in
     inl (
       c,
-      call_is call (after Trim s) later ∙ get_rest s.calls (call - (s.first + 1)) ∙ ap (slice_get s.calls) next ∙ sym (call_is call s h) ∙ e,
+      call_is call (after Trim s) later ∙ get_first_dropped s.calls (call - (s.first + 1)) ∙ ap (slice_get s.calls) next ∙ sym (call_is call s h) ∙ e,
       goes_same Trim call c (λ q p. refl) refl,
     ))
 
@@ -219,15 +206,10 @@ begun_at n caller parts call s c e =
 
 -- what becomes of a call
 pub call_goes : (e : Event) (call : ℕ) (s : State) (c : CallState) → May e s → call_at call s ≡ Some c → Outcome e call s c (call_at call (after e s))
-call_goes (Open n most) call s c may e = inl (_, changed (call_after (Open n most)) s (after (Open n most) s).links call c e, goes_all (Open n most) call c _ refl)
-call_goes (On n event) call s c may e = inl (_, changed (call_after (On n event)) s (after (On n event) s).links call c e, goes_all (On n event) call c _ refl)
-call_goes (Forget n) call s c may e = inl (_, changed (call_after (Forget n)) s (after (Forget n) s).links call c e, goes_all (Forget n) call c _ refl)
 call_goes (Begin n caller parts) call s c may e = inl (c, begun_at n caller parts call s c e, goes_same (Begin n caller parts) call c (λ q p. refl) refl)
-call_goes (GiveUp n) call s c may e = inl (_, changed (call_after (GiveUp n)) s (after (GiveUp n) s).links call c e, goes_all (GiveUp n) call c _ refl)
-call_goes (End n q cause) call s c may e = inl (_, changed (call_after (End n q cause)) s (after (End n q cause) s).links call c e, goes_all (End n q cause) call c _ refl)
-call_goes (Finish n state) call s c may e = inl (_, changed (call_after (Finish n state)) s (after (Finish n state) s).links call c e, goes_all (Finish n state) call c _ refl)
 call_goes (Leave n) call s c may e = left_at n call s c e may
 call_goes Trim call s c may e = trimmed_at call s c e may
+call_goes e call s c may is = inl (_, changed (call_after e) s (after e s).links call c is, goes_all e call c _ refl)
 
 -- a call that begins
 pub begins : (call caller : ℕ) (parts : List PartState) (s : State) → call ≡ begun s → call_at call (after (Begin call caller parts) s) ≡ Some (record { caller = caller; parts = parts; is_wanted = true })
@@ -239,27 +221,14 @@ new_calls (Begin n caller parts) = 1
 new_calls other = 0
 
 pub begun_after : (e : Event) (s : State) → May e s → begun (after e s) ≡ begun s + new_calls e
-begun_after (Open n most) s may = omega (arith, length-numbered (call_after (Open n most)) s.first s.calls)
-begun_after (On n event) s may = omega (arith, length-numbered (call_after (On n event)) s.first s.calls)
-begun_after (Forget n) s may = omega (arith, length-numbered (call_after (Forget n)) s.first s.calls)
 begun_after (Begin n caller parts) s may = omega (arith, length-append s.calls (record { caller = caller; parts = parts; is_wanted = true } ∷ []))
-begun_after (GiveUp n) s may = omega (arith, length-numbered (call_after (GiveUp n)) s.first s.calls)
-begun_after (End n q cause) s may = omega (arith, length-numbered (call_after (End n q cause)) s.first s.calls)
-begun_after (Finish n state) s may = omega (arith, length-numbered (call_after (Finish n state)) s.first s.calls)
-begun_after (Leave n) s may = omega (arith, length-numbered (call_after (Leave n)) s.first s.calls)
 begun_after Trim s may =
     omega (arith, ap length may.1, length-drop 1 s.calls)
+begun_after e s may = omega (arith, length-numbered (call_after e) s.first s.calls)
 
 pub first_more : (e : Event) (s : State) → s.first ≤ (after e s).first
-first_more (Open n most) s = omega arith
-first_more (On n event) s = omega arith
-first_more (Forget n) s = omega arith
-first_more (Begin n caller parts) s = omega arith
-first_more (GiveUp n) s = omega arith
-first_more (End n q cause) s = omega arith
-first_more (Finish n state) s = omega arith
-first_more (Leave n) s = omega arith
 first_more Trim s = omega arith
+first_more e s = omega arith
 
 -- A call that is there after an event and had begun before was there before.
 pub call_came : (e : Event) (call : ℕ) (s : State) (d : CallState) → May e s → call < begun s → call_at call (after e s) ≡ Some d → ((c : CallState) × (call_at call s ≡ Some c) × Goes e call c d) ⊎ (d ≡ left_call)
@@ -267,7 +236,7 @@ call_came e call s d may old now = elim (cases_lt call s.first) [
   | inl gone ↦ let none : None ≡ Some d = sym (no_call call (after e s) (omega (arith, gone, first_more e s))) ∙ now in absurd (cc)
   | inr here ↦
       let within : call - s.first < length s.calls = omega (arith, old, here) in
-      let c = some_at s.calls (call - s.first) within in
+      let c = at_index s.calls (call - s.first) within in
       let is : call_at call s ≡ Some c.0 = call_is call s here ∙ c.1 in
       elim (call_goes e call s c.0 may is) [
         | inl goes ↦ inl (c.0, is, subst (Goes e call c.0) (same_call goes.0 d (sym goes.1 ∙ now)) goes.2)
@@ -288,11 +257,4 @@ call_new (Begin n caller parts) call s d may new now =
       ap (λ m. Begin m caller parts) same,
       same_call d _ (sym now ∙ ap (λ m. call_at m (after (Begin n caller parts) s)) (sym same) ∙ begins n caller parts s may.0),
     )
-call_new (Open n most) call s d may new now = absurd (omega (arith, new, has_begun call (after (Open n most) s) d now, begun_after (Open n most) s may))
-call_new (On n event) call s d may new now = absurd (omega (arith, new, has_begun call (after (On n event) s) d now, begun_after (On n event) s may))
-call_new (Forget n) call s d may new now = absurd (omega (arith, new, has_begun call (after (Forget n) s) d now, begun_after (Forget n) s may))
-call_new (GiveUp n) call s d may new now = absurd (omega (arith, new, has_begun call (after (GiveUp n) s) d now, begun_after (GiveUp n) s may))
-call_new (End n q cause) call s d may new now = absurd (omega (arith, new, has_begun call (after (End n q cause) s) d now, begun_after (End n q cause) s may))
-call_new (Finish n state) call s d may new now = absurd (omega (arith, new, has_begun call (after (Finish n state) s) d now, begun_after (Finish n state) s may))
-call_new (Leave n) call s d may new now = absurd (omega (arith, new, has_begun call (after (Leave n) s) d now, begun_after (Leave n) s may))
-call_new Trim call s d may new now = absurd (omega (arith, new, has_begun call (after Trim s) d now, begun_after Trim s may))
+call_new e call s d may new now = absurd (omega (arith, new, has_begun call (after e s) d now, begun_after e s may))

@@ -64,8 +64,6 @@ answer_from : (call part : ℕ) (e : Event) (wanted : Bool) (p : PartState) (rep
     → (p.phase ≡ Answered reply) ⊎ ((number : ℕ) × (e ≡ On number (link.Take (Part call part) reply)) × (is_refusal p reply ≡ false))
 answer_from call part (On m (link.Put requests)) wanted p reply h =
     by_test (asks call part requests) (λ k. inl (asked_answer m p.phase reply (rw k at h))) (λ k. inl (rw k at h))
-answer_from call part (On m (link.Write count)) wanted p reply h = inl h
-answer_from call part (On m (link.Hear bytes)) wanted p reply h = inl h
 answer_from call part (On m (link.Take ticket r)) wanted p reply h =
     by_test (is_part call part ticket)
     (λ k. elim (told_answer wanted (is_refusal p r) r p.phase reply (rw k at h)) [
@@ -73,18 +71,11 @@ answer_from call part (On m (link.Take ticket r)) wanted p reply h =
       | inr now ↦ inr (m, ap (λ t. On m (link.Take t r)) (is_ticket call part ticket k) ∙ ap (λ x. On m (link.Take (Part call part) x)) now.0, ap (is_refusal p) (sym now.0) ∙ now.1)
     ])
     (λ k. inl (rw k at h))
-answer_from call part (On m (link.Break cause)) wanted p reply h = inl h
-answer_from call part (On m link.End) wanted p reply h = inl h
 answer_from call part (On m (link.Lose ticket begun)) wanted p reply h =
     by_test (is_part call part ticket) (λ k. inl (lost_answer wanted begun p.phase reply (rw k at h))) (λ k. inl (rw k at h))
-answer_from call part (Open m most) wanted p reply h = inl h
-answer_from call part (Forget m) wanted p reply h = inl h
-answer_from call part (Begin c caller parts) wanted p reply h = inl h
 answer_from call part (GiveUp c) wanted p reply h = by_test (eqb c call) (λ k. inl (ended_answer _ p.phase reply (rw k at h))) (λ k. inl (rw k at h))
 answer_from call part (End c q cause) wanted p reply h = by_test (eqb c call && eqb q part) (λ k. inl (ended_answer cause p.phase reply (rw k at h))) (λ k. inl (rw k at h))
-answer_from call part (Finish c state) wanted p reply h = inl h
-answer_from call part (Leave c) wanted p reply h = inl h
-answer_from call part Trim wanted p reply h = inl h
+answer_from call part e wanted p reply h = inl h
 
 -- ---- whole runs
 

@@ -28,6 +28,7 @@ no_step seat (On m (link.Write count)) h = refl
 no_step seat (On m (link.Hear bytes)) h = refl
 no_step seat (On m (link.Take ticket reply)) h = rw h refl
 no_step seat (On m (link.Break cause)) h = refl
+no_step seat (On m link.Miss) h = refl
 no_step seat (On m link.End) h = refl
 no_step seat (On m (link.Lose ticket begun)) h = rw h refl
 no_step seat (Open m most) h = refl

@@ -295,10 +295,9 @@ a_reply_comes = (
                 link_is = refl;
                 may = record {
                   wait = record { ticket = Part 0 0; start = 0; end = 7 };
-                  first = refl;
+                  is_for = record { first = refl; count = 7; before = refl; is = omega arith };
                   ticket_is = refl;
                   is_open = refl;
-                  was_written = omega arith;
                   came = record { rest = []; is = refl };
                   is = (is_message, (okay ∷ [], refl, ((refl, 0, is_head), tt)));
                   short = omega arith;

@@ -1,45 +1,54 @@
 -- What calls of a link leave is what happens on it.
-use Rattle.std.proofs.Common.{◌≡◌, ◌<◌, ◌≤◌, ◌+◌, ◌++◌, ℕ, List, [], ◌∷◌, length, take, drop, Some, None, sym, ap, subst, ◌∙◌, refl, append_assoc, append-nil, length-append, length-take, arith}
+use Rattle.std.proofs.Common.{◌≡◌, ◌<◌, ◌≤◌, ◌+◌, ◌++◌, ℕ, List, [], ◌∷◌, length, take, drop, Some, sym, ap, subst, ◌∙◌, refl, append_assoc, append-nil, length-append, length-take, arith}
 use Rattle.std.specs.List.{slice_get}
 use Rattle.std.specs.Fmt.{digits}
 use Rattle.std.proofs.lemmas.List.{take-append-drop}
 use Rattle.session_core.specs.declared.link.Ticket.TheVariants.{Asking, Part}
 use Rattle.session_core.specs.declared.link.Wait.{Wait}
 use Rattle.session_core.specs.declared.link.Standing.TheVariants.{Open}
-use Rattle.session_core.specs.Channel.{Channel, written}
-use Rattle.session_core.specs.Reply.{IsReply, HasReply, BeginsWith}
+use Rattle.session_core.specs.Channel.{Channel}
+use Rattle.session_core.specs.Reply.{IsReply, IsFor, BeginsWith}
 use Rattle.session_core.specs.LinkEvents.{Happens, Put, Take, asking}
+use Rattle.session_core.specs.Inner.Heard.{Heard}
 
 -- ---- what came
 
 at_front : (bytes : List ℕ) (len : ℕ) → BeginsWith bytes (take len bytes)
 at_front bytes len = record { rest = drop len bytes; is = sym (take-append-drop len bytes) }
 
-pub has_reply : (bytes : List ℕ) (len : ℕ) → IsReply (take len bytes) → HasReply bytes
-has_reply bytes len is = record { reply = take len bytes; is = is; front = at_front bytes len }
+-- The link is `c`, whose inside is `inner`.
+pub is_for : (inner c : Channel) (wait : Wait) (count : ℕ) → inner ≡ c → slice_get c.waits 0 ≡ Some wait → slice_get inner.written_before 0 ≡ Some count → wait.end ≤ count → IsFor inner wait
+is_for inner c wait count view first before done = record { first = ap (λ (l : Channel). slice_get l.waits 0) view ∙ first; count = count; before = before; is = done }
 
-pub nobody : (waits : List Wait) → slice_get waits 0 ≡ None → waits ≡ []
-nobody [] e = refl
-nobody (wait ∷ waits) e = absurd (cc)
+abbrev without : ℕ → Channel → Heard
+without count c = record { bytes = drop count c.heard; written_before = drop count c.written_before }
 
-pub takes : (c : Channel) (wait : Wait) (len : ℕ) (waits : List Wait) (reply heard : List ℕ) → c.standing ≡ Open → slice_get c.waits 0 ≡ Some wait → wait.end ≤ written c → IsReply (take len c.heard) × (len ≤ length c.heard) × (len ≤ c.most) → reply ≡ take len c.heard
-    → waits ≡ drop 1 c.waits → heard ≡ drop len c.heard
-    → Happens c (Take wait.ticket reply) (record { waits = waits; given = c.given; unwritten = c.unwritten; heard = heard; standing = c.standing; most = c.most })
-takes c wait len waits reply heard opened first done front copy popped left =
+abbrev with_input : Channel → List Wait → Heard → Channel
+with_input c waits input = record {
+  waits = waits;
+  given = c.given;
+  unwritten = c.unwritten;
+  heard = input.bytes;
+  written_before = input.written_before;
+  standing = c.standing;
+  most = c.most;
+}
+
+pub takes : (c : Channel) (wait : Wait) (len : ℕ) (waits : List Wait) (reply : List ℕ) (input : Heard) → c.standing ≡ Open → IsFor c wait → IsReply (take len c.heard) × (len ≤ length c.heard) × (len ≤ c.most) → reply ≡ take len c.heard
+    → waits ≡ drop 1 c.waits → input ≡ without len c → Happens c (Take wait.ticket reply) (with_input c waits input)
+takes c wait len waits reply input opened is_for front copy popped left =
     let long : length reply ≡ len = omega (arith, ap (length {A = ℕ}) copy, length-take len c.heard, front.1) in
     record {
       may = record {
         wait = wait;
-        first = first;
+        is_for = is_for;
         ticket_is = refl;
         is_open = opened;
-        was_written = done;
         came = subst (BeginsWith c.heard) (sym copy) (at_front c.heard len);
         is = subst IsReply (sym copy) front.0;
         short = omega (arith, long, front.2);
       };
-      is = ap (λ (ws : List Wait). record { waits = ws; given = c.given; unwritten = c.unwritten; heard = heard; standing = c.standing; most = c.most }) popped
-          ∙ ap (λ (bs : List ℕ). record { waits = drop 1 c.waits; given = c.given; unwritten = c.unwritten; heard = bs; standing = c.standing; most = c.most }) (left ∙ ap (λ (n : ℕ). drop n c.heard) (sym long));
+      is = ap (λ (ws : List Wait). with_input c ws input) popped ∙ ap (with_input c (drop 1 c.waits)) (left ∙ ap (λ (n : ℕ). without n c) (sym long));
     }
 
 -- ---- what is asked
@@ -57,7 +66,7 @@ abbrev both_wait : List Wait → ℕ → ℕ → ℕ → ℕ → ℕ → List Wa
 both_wait waits given start end call part = waits ++ record { ticket = Asking; start = given; end = start } ∷ record { ticket = Part call part; start = start; end = end } ∷ []
 
 abbrev with_both : Channel → List Wait → ℕ → List ℕ → Channel
-with_both c waits given unwritten = record { waits = waits; given = given; unwritten = unwritten; heard = c.heard; standing = c.standing; most = c.most }
+with_both c waits given unwritten = record { waits = waits; given = given; unwritten = unwritten; heard = c.heard; written_before = c.written_before; standing = c.standing; most = c.most }
 
 pub asks_both : (c : Channel) (call part : ℕ) (request : List ℕ) (start end : ℕ) (reserved first waits : List Wait) (unwritten : List ℕ) → c.standing ≡ Open → 0 < length request → start ≡ c.given + 16 → end ≡ start + length request
     → reserved ≡ c.waits → first ≡ reserved ++ record { ticket = Asking; start = c.given; end = start } ∷ [] → waits ≡ first ++ record { ticket = Part call part; start = start; end = end } ∷ [] → unwritten ≡ c.unwritten ++ (asking_bytes ++ request)

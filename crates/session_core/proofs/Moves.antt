@@ -51,7 +51,6 @@ ended cause (Unsent other) = stays (Unsent other)
 -- what an event does to a part that is there
 pub moves : (seat : CallPart) (e : Event) (s : State) (wanted : Bool) (f : Phase) → IsSingle s → May e s → part_at seat.call seat.part s ≡ Some (in_phase seat.began f)
     → Moves (step_of seat e) f (phase_after seat.call seat.part e wanted (in_phase seat.began f))
-moves seat (Open m most) s wanted f single may at = stays f
 moves seat (On m (link.Put requests)) s wanted f single may at =
     by_test (asks seat.call seat.part requests)
     (λ k.
@@ -60,29 +59,21 @@ moves seat (On m (link.Put requests)) s wanted f single may at =
     let w = that_waits f (ap (λ (x : PartState). is_waiting x.phase) (sym same) ∙ ask.waits) in
     rw (k, w.1) (goes_out m w.0))
     (λ k. rw k (stays f))
-moves seat (On m (link.Write count)) s wanted f single may at = stays f
-moves seat (On m (link.Hear bytes)) s wanted f single may at = stays f
 moves seat (On m (link.Take ticket reply)) s wanted f single may at =
     by_test (is_part seat.call seat.part ticket)
     (λ k.
-    let w = on_its_way m f (ap (is_there m) (sym at) ∙ first_there m seat.call seat.part ticket may.channel may.may.wait s single may.link_is may.may.first may.may.ticket_is k) in
+    let w = on_its_way m f (ap (is_there m) (sym at) ∙ first_there m seat.call seat.part ticket may.channel may.may.wait s single may.link_is may.may.is_for.first may.may.ticket_is k) in
     rw (k, w.1) (told m w.0 wanted (is_refusal seat.began reply) reply))
     (λ k. rw k (stays f))
-moves seat (On m (link.Break cause)) s wanted f single may at = stays f
-moves seat (On m link.End) s wanted f single may at = stays f
 moves seat (On m (link.Lose ticket begun)) s wanted f single may at =
     by_test (is_part seat.call seat.part ticket)
     (λ k.
     let w = on_its_way m f (ap (is_there m) (sym at) ∙ first_there m seat.call seat.part ticket may.channel may.may.wait s single may.link_is may.may.first may.may.ticket_is k) in
     rw (k, w.1) (ended_link m w.0 wanted begun))
     (λ k. rw k (stays f))
-moves seat (Forget m) s wanted f single may at = stays f
-moves seat (Begin c caller parts) s wanted f single may at = stays f
 moves seat (GiveUp c) s wanted f single may at = by_test (eqb c seat.call) (λ k. rw k (ended GivenUp f)) (λ k. rw k (stays f))
 moves seat (End c q cause) s wanted f single may at = by_test (eqb c seat.call && eqb q seat.part) (λ k. rw k (ended cause f)) (λ k. rw k (stays f))
-moves seat (Finish c state) s wanted f single may at = stays f
-moves seat (Leave c) s wanted f single may at = stays f
-moves seat Trim s wanted f single may at = stays f
+moves seat e s wanted f single may at = stays f
 
 -- ---- what the steps of a part say of its phase
 

@@ -38,20 +38,9 @@ asked_by seat (On m (link.Put requests)) number h =
     let same : m ≡ number = cc in
     (requests, ap (λ n. On n (link.Put requests)) same, k))
     (λ k. let is : None ≡ Some (Asked number) = rw k at h in absurd (cc))
-asked_by seat (On m (link.Write count)) number h = absurd (cc)
-asked_by seat (On m (link.Hear bytes)) number h = absurd (cc)
 asked_by seat (On m (link.Take ticket reply)) number h = absurd (taken_asks (is_part seat.call seat.part ticket) (is_refusal seat.began reply) number h)
-asked_by seat (On m (link.Break cause)) number h = absurd (cc)
-asked_by seat (On m link.End) number h = absurd (cc)
 asked_by seat (On m (link.Lose ticket begun)) number h = absurd (lost_asks (is_part seat.call seat.part ticket) begun number h)
-asked_by seat (Open m most) number h = absurd (cc)
-asked_by seat (Forget m) number h = absurd (cc)
-asked_by seat (Begin c caller parts) number h = absurd (cc)
-asked_by seat (GiveUp c) number h = absurd (cc)
-asked_by seat (End c q cause) number h = absurd (cc)
-asked_by seat (Finish c state) number h = absurd (cc)
-asked_by seat (Leave c) number h = absurd (cc)
-asked_by seat Trim number h = absurd (cc)
+asked_by seat e number h = absurd (cc)
 
 -- of a Put, a step is that the part is asked
 put_step : (seat : CallPart) (m : ℕ) (requests : List Ask) → (step_of seat (On m (link.Put requests)) ≡ None) ⊎ (step_of seat (On m (link.Put requests)) ≡ Some (Asked m))

@@ -55,21 +55,15 @@ on_channel : (m call part : ℕ) (event : link.Event) (c : Channel) → link.May
 on_channel m call part (link.Put requests) c may =
     rw (eq-eqb m m refl)
     (omega (arith, sum_by-append (λ (x : Wait). cond (is_part call part x.ticket) 1 0) c.waits (placed c.given requests), placed_count call part c.given requests may.1))
-on_channel m call part (link.Write count) c may = refl
-on_channel m call part (link.Hear bytes) c may = refl
-on_channel m call part (link.Take ticket reply) c may = rw (eq-eqb m m refl) (omega (arith, first_count call part ticket c.waits may.wait may.first may.ticket_is))
-on_channel m call part (link.Break cause) c may = refl
-on_channel m call part link.End c may = refl
+on_channel m call part (link.Take ticket reply) c may = rw (eq-eqb m m refl) (omega (arith, first_count call part ticket c.waits may.wait may.is_for.first may.ticket_is))
 on_channel m call part (link.Lose ticket begun) c may = rw (eq-eqb m m refl) (omega (arith, first_count call part ticket c.waits may.wait may.first may.ticket_is))
+on_channel m call part event c may = refl
 
 other_link : (m n call part : ℕ) (event : link.Event) → eqb m n ≡ false → (put_on n call part (On m event) ≡ 0) × (took_from n call part (On m event) ≡ 0)
 other_link m n call part (link.Put requests) h = rw h (refl, refl)
-other_link m n call part (link.Write count) h = (refl, refl)
-other_link m n call part (link.Hear bytes) h = (refl, refl)
 other_link m n call part (link.Take ticket reply) h = rw h (refl, refl)
-other_link m n call part (link.Break cause) h = (refl, refl)
-other_link m n call part link.End h = (refl, refl)
 other_link m n call part (link.Lose ticket begun) h = rw h (refl, refl)
+other_link m n call part event h = (refl, refl)
 
 abbrev IsCounted : ℕ → ℕ → ℕ → Event → State → Type 0
 IsCounted n call part e s = waiting call part (waits_at n (after e s)) + took_from n call part e ≡ waiting call part (waits_at n s) + put_on n call part e
@@ -242,7 +236,6 @@ ended_away n cause (Unsent cause2) = refl
 -- how often a part is on its way, before an event and after it
 phase_count : (n call part : ℕ) (e : Event) (s : State) (wanted : Bool) (p : PartState) → IsSingle s → May e s → part_at call part s ≡ Some p
     → cond (is_on n (phase_after call part e wanted p)) 1 0 + took_from n call part e ≡ cond (is_on n p.phase) 1 0 + put_on n call part e
-phase_count n call part (Open m most) s wanted p single may at = refl
 phase_count n call part (On m (link.Put requests)) s wanted p single may at =
     by_test (asks call part requests)
     (λ k.
@@ -251,17 +244,13 @@ phase_count n call part (On m (link.Put requests)) s wanted p single may at =
     let w = that_waits p.phase (ap (λ (x : PartState). is_waiting x.phase) (sym same) ∙ ask.waits) in
     rw (k, w.1) (omega arith))
     (λ k. rw k (by_test (eqb m n) (λ q. rw q refl) (λ q. rw q refl)))
-phase_count n call part (On m (link.Write count)) s wanted p single may at = refl
-phase_count n call part (On m (link.Hear bytes)) s wanted p single may at = refl
 phase_count n call part (On m (link.Take ticket reply)) s wanted p single may at =
     by_test (is_part call part ticket)
     (λ k.
-    let there : is_on m p.phase ≡ true = ap (is_there m) (sym at) ∙ first_there m call part ticket may.channel may.may.wait s single may.link_is may.may.first may.may.ticket_is k in
+    let there : is_on m p.phase ≡ true = ap (is_there m) (sym at) ∙ first_there m call part ticket may.channel may.may.wait s single may.link_is may.may.is_for.first may.may.ticket_is k in
     let w = on_its_way m p.phase there in
     rw (k, w.1, told_away n m w.0 wanted (is_refusal p reply) reply) (omega arith))
     (λ k. rw k (by_test (eqb m n) (λ q. rw q refl) (λ q. rw q refl)))
-phase_count n call part (On m (link.Break cause)) s wanted p single may at = refl
-phase_count n call part (On m link.End) s wanted p single may at = refl
 phase_count n call part (On m (link.Lose ticket begun)) s wanted p single may at =
     by_test (is_part call part ticket)
     (λ k.
@@ -269,13 +258,9 @@ phase_count n call part (On m (link.Lose ticket begun)) s wanted p single may at
     let w = on_its_way m p.phase there in
     rw (k, w.1, lost_away n m w.0 wanted begun) (omega arith))
     (λ k. rw k (by_test (eqb m n) (λ q. rw q refl) (λ q. rw q refl)))
-phase_count n call part (Forget m) s wanted p single may at = refl
-phase_count n call part (Begin c caller parts) s wanted p single may at = refl
 phase_count n call part (GiveUp c) s wanted p single may at = by_test (eqb c call) (λ k. rw (k, ended_away n GivenUp p.phase) refl) (λ k. rw k refl)
 phase_count n call part (End c q cause) s wanted p single may at = by_test (eqb c call && eqb q part) (λ k. rw (k, ended_away n cause p.phase) refl) (λ k. rw k refl)
-phase_count n call part (Finish c state) s wanted p single may at = refl
-phase_count n call part (Leave c) s wanted p single may at = refl
-phase_count n call part Trim s wanted p single may at = refl
+phase_count n call part e s wanted p single may at = refl
 
 -- ---- a part that nothing happens to
 
@@ -311,7 +296,6 @@ idle_first number call part ticket c w s single is first own idle =
     (λ k. k)
 
 pub untouched : (call part : ℕ) (e : Event) (s : State) → IsSingle s → May e s → IsIdle call part s → touches call part e ≡ false
-untouched call part (Open m most) s single may idle = refl
 untouched call part (On m (link.Put requests)) s single may idle =
     by_test (asks call part requests)
     (λ k.
@@ -320,36 +304,15 @@ untouched call part (On m (link.Put requests)) s single may idle =
     let done = idle ask.it (part_is ask.caller call part s ask.it ask.has) in
     absurd (false≢true (ap is_done (sym w.1) ∙ done)))
     (λ k. k)
-untouched call part (On m (link.Write count)) s single may idle = refl
-untouched call part (On m (link.Hear bytes)) s single may idle = refl
-untouched call part (On m (link.Take ticket reply)) s single may idle = idle_first m call part ticket may.channel may.may.wait s single may.link_is may.may.first may.may.ticket_is idle
-untouched call part (On m (link.Break cause)) s single may idle = refl
-untouched call part (On m link.End) s single may idle = refl
+untouched call part (On m (link.Take ticket reply)) s single may idle = idle_first m call part ticket may.channel may.may.wait s single may.link_is may.may.is_for.first may.may.ticket_is idle
 untouched call part (On m (link.Lose ticket begun)) s single may idle = idle_first m call part ticket may.channel may.may.wait s single may.link_is may.may.first may.may.ticket_is idle
-untouched call part (Forget m) s single may idle = refl
-untouched call part (Begin c caller parts) s single may idle = refl
-untouched call part (GiveUp c) s single may idle = refl
-untouched call part (End c q cause) s single may idle = refl
-untouched call part (Finish c state) s single may idle = refl
-untouched call part (Leave c) s single may idle = refl
-untouched call part Trim s single may idle = refl
+untouched call part e s single may idle = refl
 
 untouched_count : (n call part : ℕ) (e : Event) → touches call part e ≡ false → (put_on n call part e ≡ 0) × (took_from n call part e ≡ 0)
 untouched_count n call part (On m (link.Put requests)) h = rw h (by_test (eqb m n) (λ q. rw q (refl, refl)) (λ q. rw q (refl, refl)))
-untouched_count n call part (On m (link.Write count)) h = (refl, refl)
-untouched_count n call part (On m (link.Hear bytes)) h = (refl, refl)
 untouched_count n call part (On m (link.Take ticket reply)) h = rw h (by_test (eqb m n) (λ q. rw q (refl, refl)) (λ q. rw q (refl, refl)))
-untouched_count n call part (On m (link.Break cause)) h = (refl, refl)
-untouched_count n call part (On m link.End) h = (refl, refl)
 untouched_count n call part (On m (link.Lose ticket begun)) h = rw h (by_test (eqb m n) (λ q. rw q (refl, refl)) (λ q. rw q (refl, refl)))
-untouched_count n call part (Open m most) h = (refl, refl)
-untouched_count n call part (Forget m) h = (refl, refl)
-untouched_count n call part (Begin c caller parts) h = (refl, refl)
-untouched_count n call part (GiveUp c) h = (refl, refl)
-untouched_count n call part (End c q cause) h = (refl, refl)
-untouched_count n call part (Finish c state) h = (refl, refl)
-untouched_count n call part (Leave c) h = (refl, refl)
-untouched_count n call part Trim h = (refl, refl)
+untouched_count n call part e h = (refl, refl)
 
 -- ---- each event keeps it
 

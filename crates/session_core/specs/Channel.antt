@@ -16,6 +16,8 @@ pub record Channel : Type 0 where
   pub unwritten : List ℕ
   -- what came, without the replies that were taken
   pub heard : List ℕ
+  -- for each of these bytes, how many bytes were written before it came
+  pub written_before : List ℕ
   pub standing : Standing
   -- the most bytes that a reply may have
   pub most : ℕ
@@ -26,7 +28,20 @@ written c = c.given - length c.unwritten
 
 -- a new connection
 abbrev pub fresh : ℕ → Channel
-fresh most = record { waits = []; given = 0; unwritten = []; heard = []; standing = Open; most = most }
+fresh most = record {
+  waits = [];
+  given = 0;
+  unwritten = [];
+  heard = [];
+  written_before = [];
+  standing = Open;
+  most = most;
+}
+
+-- what is to be written: on a link that is broken or ended, nothing
+abbrev pub to_write : Standing → List ℕ → List ℕ
+to_write Open unwritten = unwritten
+to_write other unwritten = []
 
 -- Some byte of what was asked was written. Its node may have run it.
 abbrev pub is_begun : Channel → Wait → Bool

@@ -1,4 +1,5 @@
 pub mod Ready
+pub mod Heard
 pub mod GateKept
 pub mod Kept
 pub mod OwedFrom

@@ -1,5 +1,5 @@
 -- What happens on a link.
-use Rattle.std.specs.Prelude.{◌≡◌, ◌≢◌, ◌+◌, ◌<◌, ◌≤◌, ◌++◌, ℕ, Bool, List, [], ◌∷◌, length, drop, codes, slice_get, Some}
+use Rattle.std.specs.Prelude.{◌≡◌, ◌≢◌, ◌+◌, ◌<◌, ◌≤◌, ◌++◌, ℕ, Bool, List, [], ◌∷◌, length, drop, replicate, codes, slice_get, Some}
 use Rattle.resp.specs.Forms.{request}
 use Rattle.session_core.specs.declared.link.Ticket.{Ticket}
 use Rattle.session_core.specs.declared.link.Ticket.TheVariants.{Asking, Part}
@@ -7,7 +7,7 @@ use Rattle.session_core.specs.declared.link.Wait.{Wait}
 use Rattle.session_core.specs.declared.link.Standing.TheVariants.{Open, Broken, Ended}
 use Rattle.session_core.specs.declared.link.BreakCause.{BreakCause}
 use Rattle.session_core.specs.Channel.{Channel, Ask, written, is_begun, bytes_of, placed}
-use Rattle.session_core.specs.Reply.{IsReply, IsCause, BeginsWith}
+use Rattle.session_core.specs.Reply.{IsReply, IsCause, IsFor, BeginsWith}
 
 pub data Event : Type 0 where
   -- these requests are put on the link in one step
@@ -20,6 +20,8 @@ pub data Event : Type 0 where
   Take : (ticket : Ticket) → (reply : List ℕ) → Event
   -- what came can be taken by nobody
   Break : (cause : BreakCause) → Event
+  -- bytes come that are not kept, as memory ran out
+  Miss : Event
   -- the connection ends
   End : Event
   -- what has this ticket gets no reply; some byte of it was written, or none
@@ -40,13 +42,12 @@ IsStep (ask ∷ []) = (ask.0 ≢ Asking) × (0 < length ask.1)
 IsStep (ask ∷ next ∷ []) = (ask ≡ (Asking, asking)) × IsPart next.0 × (0 < length next.1)
 IsStep (ask ∷ next ∷ third ∷ more) = ⊥
 
--- A reply for the first that waits has come, after its request was written to its end.
+-- A reply for the first that waits has come, all after its request was written to its end.
 pub record IsAnswered (c : Channel) (ticket : Ticket) (reply : List ℕ) : Type 0 where
   pub wait : Wait
-  pub first : slice_get c.waits 0 ≡ Some wait
+  pub is_for : IsFor c wait
   pub ticket_is : wait.ticket ≡ ticket
   pub is_open : c.standing ≡ Open
-  pub was_written : wait.end ≤ written c
   pub came : BeginsWith c.heard reply
   pub is : IsReply reply
   pub short : length reply ≤ c.most
@@ -66,6 +67,7 @@ May (Write count) c = (c.standing ≢ Ended) × (count ≤ length c.unwritten)
 May (Hear bytes) c = c.standing ≡ Open
 May (Take ticket reply) c = IsAnswered c ticket reply
 May (Break cause) c = (c.standing ≡ Open) × IsCause cause c
+May Miss c = c.standing ≡ Open
 May End c = c.standing ≢ Ended
 May (Lose ticket begun) c = IsLost c ticket begun
 
@@ -76,14 +78,22 @@ after (Put asks) c = record {
   given = c.given + length (bytes_of asks);
   unwritten = c.unwritten ++ bytes_of asks;
   heard = c.heard;
+  written_before = c.written_before;
   standing = c.standing;
   most = c.most;
 }
 after (Write count) c = record c { unwritten = drop count c.unwritten }
-after (Hear bytes) c = record c { heard = c.heard ++ bytes }
-after (Take ticket reply) c =
-    record c { waits = drop 1 c.waits; heard = drop (length reply) c.heard }
+after (Hear bytes) c = record c {
+  heard = c.heard ++ bytes;
+  written_before = c.written_before ++ replicate (length bytes) (written c);
+}
+after (Take ticket reply) c = record c {
+  waits = drop 1 c.waits;
+  heard = drop (length reply) c.heard;
+  written_before = drop (length reply) c.written_before;
+}
 after (Break cause) c = record c { standing = Broken }
+after Miss c = record c { standing = Broken }
 after End c = record c { standing = Ended }
 after (Lose ticket begun) c = record c { waits = drop 1 c.waits }
 

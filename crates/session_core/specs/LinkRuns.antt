@@ -1,13 +1,12 @@
 -- Whole runs of a link, and what holds of each.
-use Rattle.std.specs.Prelude.{◌≡◌, ◌+◌, ◌≤◌, ◌++◌, ℕ, Bool, nat_lt, List, [], ◌∷◌, length, take, drop, map}
+use Rattle.std.specs.Prelude.{◌≡◌, ◌+◌, ◌<◌, ◌≤◌, ◌++◌, ℕ, Bool, true, false, nat_lt, List, [], ◌∷◌, length, take, drop, map, Some, slice_get}
 use Rattle.std.specs.List.{All}
 use Rattle.session_core.specs.declared.link.Ticket.{Ticket}
 use Rattle.session_core.specs.declared.link.Ticket.TheVariants.{Asking}
 use Rattle.session_core.specs.declared.link.Wait.{Wait}
-use Rattle.session_core.specs.declared.link.BreakCause.{BreakCause}
 use Rattle.session_core.specs.Channel.{Channel, Ask, written, bytes_of, placed}
 use Rattle.session_core.specs.Reply.{IsReply}
-use Rattle.session_core.specs.LinkEvents.{Event, Put, Write, Hear, Take, Break, End, Lose, IsPart, asking}
+use Rattle.session_core.specs.LinkEvents.{Event, Put, Write, Hear, Take, Break, Miss, End, Lose, IsPart, asking}
 
 -- what was asked, in order
 abbrev pub asked : List Event → List Ask
@@ -43,6 +42,13 @@ came (event ∷ events) = came events
 abbrev pub loss : ℕ → Wait → Ticket × Bool
 loss count wait = (wait.ticket, nat_lt wait.start count)
 
+-- the link is broken or ended after this
+abbrev pub closes : Event → Bool
+closes (Break cause) = true
+closes Miss = true
+closes End = true
+closes other = false
+
 -- Nothing is asked, heard or taken.
 abbrev pub IsSilent : List Event → Type 0
 IsSilent events = (asked events ≡ []) × (came events ≡ []) × (taken events ≡ [])
@@ -55,14 +61,18 @@ BeginsWithPart (ask ∷ more) = IsPart ask.0
 --
 -- `GET a` of call 7 and `GET b` of call 8 are asked, and written. `+x` and `+y` come: `+x` is taken
 --     for call 7, and `+y` for call 8. A third message breaks the link when it is looked at.
+-- Half of `+x` comes while nobody waits. `GET a` is asked and written, and the other half comes. No
+--     run takes `+x` for `GET a`.
 -- `INCR a` is asked, and its first byte is written. The connection ends: `INCR a` is lost, begun.
 pub record IsAccounted (events : List Event) (c : Channel) : Type 0 where
-  -- Reply number i was taken for request number i, which was written to its end. As each beginning
-  -- of a run is a run, this held when the reply was taken.
+  -- Reply number i was taken for request number i.
   pub in_turn : map (λ t. t.0) (taken events)
       ≡ take (length (taken events)) (map (λ ask. ask.0) (asked events))
-  pub was_written : All (λ wait. wait.end ≤ written c)
-      (take (length (taken events)) (placed 0 (asked events)))
+  -- Before a byte of reply number i came, request number i was written to its end.
+  pub was_written : (before more : List Event) (i : ℕ) (wait : Wait) → events ≡ before ++ more
+      → i < length (taken events) → slice_get (placed 0 (asked events)) i ≡ Some wait
+      → length (bytes_of (take i (taken events))) < length (came before)
+      → wait.end ≤ count_written before
   -- What came is the replies, end to end, and what was not taken.
   pub incoming : came events ≡ bytes_of (taken events) ++ c.heard
   pub replies : All (λ t. IsReply t.1 × (length t.1 ≤ c.most)) (taken events)
@@ -79,7 +89,5 @@ pub record IsAccounted (events : List Event) (c : Channel) : Type 0 where
   pub asking_before_part : (before more : List Ask) (request : List ℕ)
       → asked events ≡ before ++ (Asking, request) ∷ more
       → (request ≡ asking) × BeginsWithPart more
-  pub silent_after_break : (before more : List Event) (cause : BreakCause)
-      → events ≡ before ++ Break cause ∷ more → IsSilent more
-  pub silent_after_end : (before more : List Event) → events ≡ before ++ End ∷ more
-      → IsSilent more
+  pub silent_after : (before more : List Event) (event : Event) → events ≡ before ++ event ∷ more
+      → closes event ≡ true → IsSilent more

@@ -11,6 +11,7 @@
 
 mod buffer;
 mod caller;
+mod heard;
 mod lane;
 mod laws;
 mod link;

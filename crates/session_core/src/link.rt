@@ -5,6 +5,7 @@ ghost use Rattle.session_core.specs.declared.link.Standing.{Standing};
 ghost use Rattle.session_core.specs.Inner.Ready.{IsReady, IsFront};
 
 use crate::buffer::Buffer;
+use crate::heard::Heard;
 use resp::{Fault, Progress, is_version_2, scan};
 use std::alloc::{AllocError, Global};
 use std::collections::VecDeque;
@@ -38,8 +39,8 @@ pub struct Wait {
 pub enum Standing {
     /// Requests may be asked, and replies taken.
     Open,
-    /// What came can be taken by nobody. The link is to be closed. Nothing is asked, heard or
-    /// taken, but writes that were under way may be noted.
+    /// What came can be taken by nobody, or some of it was not kept. The link is to be closed.
+    /// Nothing is asked, written, heard or taken. Only writes that were under way may be noted.
     Broken,
     /// The connection ended. What waits is lost.
     Ended,
@@ -50,9 +51,9 @@ pub enum Standing {
 pub enum BreakCause {
     /// It begins no reply of version 2 of the protocol.
     Malformed,
-    /// A reply came, and nobody waits.
+    /// A byte came, and nobody waits.
     Stray,
-    /// A reply came before the request of the first that waits was written to its end.
+    /// A byte came before the request of the first that waits was written to its end.
     Early,
     /// A reply has more bytes than the link allows.
     TooLong,
@@ -76,15 +77,15 @@ const ASKING: &[u8] = b"*1\r\n$6\r\nASKING\r\n";
 /// came.
 ///
 /// The caller owns the socket. It writes [`Link::unwritten`] and notes it by [`Link::wrote`]. It
-/// passes what it reads to [`Link::hear`], and then calls [`Link::take`] until it gets
-/// [`Taken::Nothing`], before it asks or writes more. A link does not know when bytes came. So a
-/// message that came early goes to a later request if nobody looks for it in between.
+/// passes what it reads to [`Link::hear`], and calls [`Link::take`] until it gets
+/// [`Taken::Nothing`]. What it wrote before a read, it notes before it passes what it read. Then no
+/// message that came early is ever taken, in whatever order the calls are made.
 #[derive(Drop)]
 pub struct Link {
     waits: VecDeque<Wait>,
     given: u64,
     output: Buffer,
-    input: Buffer,
+    input: Heard,
     progress: Progress,
     standing: Standing,
     most: usize,
@@ -101,18 +102,19 @@ impl Model for Link {
       waits = l.waits.items;
       given = l.given;
       unwritten = l.output;
-      heard = l.input;
+      heard = l.input.bytes;
+      written_before = l.input.written_before;
       standing = l.standing;
       most = l.most;
     } };
 
-    ghost invariant = { λ l. (length l.output ≤ l.given) × IsReady l.progress l.input };
+    ghost invariant = { λ l. (length l.output ≤ l.given) × IsReady l.progress l.input.bytes };
 }
 
 impl Link {
-    ghost use Rattle.session_core.specs.Channel.{fresh, written};
+    ghost use Rattle.session_core.specs.Channel.{fresh, written, to_write};
     ghost use Rattle.session_core.specs.Reply.{IsCause};
-    ghost use Rattle.session_core.specs.LinkEvents.{Happens, Put, Write, Hear, End, Lose, asking};
+    ghost use Rattle.session_core.specs.LinkEvents.{Happens, Put, Write, Hear, Miss, End, Lose, asking};
     ghost use Rattle.session_core.specs.Taken.{IsTaken};
 
     /// A new connection. No reply may have more than `most` bytes. Takes no memory.
@@ -123,7 +125,7 @@ impl Link {
             waits: VecDeque::new(alloc),
             given: 0,
             output: Buffer::new(alloc),
-            input: Buffer::new(alloc),
+            input: Heard::new(alloc),
             progress: Progress::new(),
             standing: Standing::Open,
             most,
@@ -137,11 +139,21 @@ impl Link {
         self.standing
     }
 
-    /// What is to be written.
+    /// What is to be written. On a link that is broken or ended, this is nothing.
     pub fn unwritten(&self) -> &[u8]
-        ensures { result.now ≡ self.now.unwritten }
+        ensures { result.now ≡ to_write self.now.standing self.now.unwritten }
     {
-        self.output.as_slice()
+        match self.standing {
+            Standing::Open => self.output.as_slice(),
+            Standing::Broken | Standing::Ended => &[],
+        }
+    }
+
+    /// Number of bytes that were asked and are not noted as written. No write was longer than this.
+    pub fn count_unwritten(&self) -> usize
+        ensures { result ≡ length self.now.unwritten }
+    {
+        self.output.len()
     }
 
     /// The first request that waits, if one does. The next reply is for it.
@@ -219,7 +231,8 @@ impl Link {
         Ok(())
     }
 
-    /// Notes that `count` bytes more were written.
+    /// Notes that `count` bytes more were written. On a broken link, these are writes that were
+    /// under way.
     pub fn wrote(&mut self, count: usize)
         requires connected { self.old.standing ≢ Standing.Ended }
         requires within { count ≤ length self.old.unwritten }
@@ -232,15 +245,22 @@ impl Link {
     ///
     /// # Errors
     ///
-    /// If memory runs out. Then nothing changes: pass the same bytes again, or end the link.
+    /// If memory runs out. What follows these bytes can be told no more, so the link stands
+    /// [`Standing::Broken`] now.
     #[tactic(auto, using(crate::proofs::Scans::ready_more))]
     pub fn hear(&mut self, bytes: &[u8]) -> Result<(), AllocError>
         requires { self.old.standing ≡ Standing.Open }
         ensures ok { OnOk result (Happens self.old (Hear bytes.now) self.new) }
-        ensures err { OnErr result (self.new ≡ self.old) }
+        ensures err { OnErr result (Happens self.old Miss self.new) }
     {
-        self.input.push(bytes)?;
-        Ok(())
+        let written = self.written();
+        match self.input.push(bytes, written) {
+            Ok(()) => Ok(()),
+            Err(error) => {
+                self.standing = Standing::Broken;
+                Err(error)
+            }
+        }
     }
 
     /// Takes the reply at the front of what came, for the first that waits. A reply is gone over
@@ -255,18 +275,21 @@ impl Link {
         ensures taken { IfOk result (λ taken. IsTaken self.old taken self.new) }
         ensures err { OnErr result (self.new ≡ self.old) }
     {
+        let Some(written) = self.input.written_before() else {
+            return Ok(Taken::Nothing);
+        };
+        let Some(wait) = self.first_wait() else {
+            return Ok(self.break_by(BreakCause::Stray));
+        };
+        if written < wait.end {
+            return Ok(self.break_by(BreakCause::Early));
+        }
         let len = match front_of(&mut self.progress, self.input.as_slice(), self.most) {
             Front::Reply(len) => len,
             Front::Unfinished => return Ok(Taken::Nothing),
             Front::Malformed => return Ok(self.break_by(BreakCause::Malformed)),
             Front::TooLong => return Ok(self.break_by(BreakCause::TooLong)),
         };
-        let Some(wait) = self.first_wait() else {
-            return Ok(self.break_by(BreakCause::Stray));
-        };
-        if self.written() < wait.end {
-            return Ok(self.break_by(BreakCause::Early));
-        }
         let reply = self.input.take_front(alloc, len)?;
         self.waits.pop_front();
         Ok(Taken::Reply(wait.ticket, reply))

@@ -71,9 +71,8 @@ pub fn answered()
         → request ≡ seat.began.request }
 {}
 
-/// On each link, reply number i is taken for request number i, once that is written to its end. After
-/// a link breaks or ends, nothing is asked or taken on it. The law does not say when a reply came: a
-/// message that came before its request was put is taken for it if nobody looked in between.
+/// On each link, reply number i is taken for request number i. That request was written to its end
+/// before a byte of the reply came. After a link breaks or ends, nothing is asked or taken on it.
 pub fn mine()
     ensures { (events : List Event) (s : State) (number : ℕ) (c : Channel) → Run start events s
         → IsLink s number c → IsAccounted (on_link number events) c }
