@@ -6,10 +6,10 @@ use Rattle.std.proofs.lemmas.List.{append-nil}
 use Rattle.std.proofs.lemmas.List.Elements.{filter_map-append, Contains-push_cases}
 use Rattle.session_core.specs.LinkEvents as link
 use Rattle.session_core.specs.Part.{PartState, Phase, Waits, is_waiting, is_done}
-use Rattle.session_core.specs.State.{CallState, State, Event, Open, On, Forget, Begin, GiveUp, End, Finish, Leave, Trim, start, begun, call_at, part_at, phase_after, May, Has, IsTurn, after, Run}
+use Rattle.session_core.specs.State.{CallState, State, Event, Open, On, Forget, Begin, GiveUp, End, Finish, Leave, Trim, start, begun, call_at, part_at, phase_after, left_call, May, Has, IsTurn, after, Run}
 use Rattle.session_core.specs.History.{CallPart, Began, Step, step_of, steps, AreTries}
 use Rattle.session_core.proofs.Runs.{always}
-use Rattle.session_core.proofs.AfterEvents.{nothing_in, in_phase, all_at, seen, not_begun, begun_after, call_goes, call_came, begins}
+use Rattle.session_core.proofs.AfterEvents.{nothing_in, in_phase, all_at, seen, not_begun, begun_after, same_call, call_goes, call_came, begins}
 use Rattle.session_core.proofs.Waiting.{IsSingle, single, part_is, same_part, none_there, touches, untouched, IsIdle, that_waits}
 use Rattle.session_core.proofs.Moves.{Moves, moves, Knows, budget, knows_more, with_step}
 
@@ -24,21 +24,9 @@ steps_more seat es e = filter_map-append (step_of seat) es (e ∷ []) ∙ add_st
 
 pub no_step : (seat : CallPart) (e : Event) → touches seat.call seat.part e ≡ false → step_of seat e ≡ None
 no_step seat (On m (link.Put requests)) h = rw h refl
-no_step seat (On m (link.Write count)) h = refl
-no_step seat (On m (link.Hear bytes)) h = refl
 no_step seat (On m (link.Take ticket reply)) h = rw h refl
-no_step seat (On m (link.Break cause)) h = refl
-no_step seat (On m link.Miss) h = refl
-no_step seat (On m link.End) h = refl
 no_step seat (On m (link.Lose ticket begun)) h = rw h refl
-no_step seat (Open m most) h = refl
-no_step seat (Forget m) h = refl
-no_step seat (Begin c caller parts) h = refl
-no_step seat (GiveUp c) h = refl
-no_step seat (End c q cause) h = refl
-no_step seat (Finish c state) h = refl
-no_step seat (Leave c) h = refl
-no_step seat Trim h = refl
+no_step seat e h = refl
 
 -- nothing happens to a part before its call begins
 pub unbegun : (seat : CallPart) (events : List Event) (s : State) → Run start events s → begun s ≤ seat.call → steps seat events ≡ []
@@ -51,9 +39,13 @@ unbegun seat events s run = always (λ es t. begun t ≤ seat.call → steps sea
 
 -- ---- where a part is
 
+abbrev pub IsUnwanted : ℕ → State → Type 0
+IsUnwanted call s = (c : CallState) → call_at call s ≡ Some c → c.is_wanted ≡ false
+
 -- its place is forgotten
 pub record IsAway (seat : CallPart) (phase : Phase) (s : State) : Type 0 where
   pub away : part_at seat.call seat.part s ≡ None
+  pub unwanted : IsUnwanted seat.call s
   pub done : is_done phase ≡ true
   pub turn : IsTurn s seat.caller seat.call
 
@@ -72,6 +64,20 @@ turn_after caller call e s may bound turn = λ n d lt is own. elim (call_came e 
       let old : c.0.is_wanted ≡ false = turn n c.0 lt c.1 (sym c.2.caller ∙ own) in
       c.2.wanted ∙ rw old refl
   | inr left ↦ ap (λ (x : CallState). x.is_wanted) left
+]
+
+unwanted_after : (call : ℕ) (e : Event) (s : State) → May e s → call < begun s → IsUnwanted call s → IsUnwanted call (after e s)
+unwanted_after call e s may bound none = λ d is. elim (call_came e call s d may bound is) [
+  | inl c ↦
+      let old : c.0.is_wanted ≡ false = none c.0 c.1 in
+      c.2.wanted ∙ rw old refl
+  | inr left ↦ ap (λ (x : CallState). x.is_wanted) left
+]
+
+unwanted_gone : (call : ℕ) (s : State) → (call_at call s ≡ None) ⊎ (call_at call s ≡ Some left_call) → IsUnwanted call s
+unwanted_gone call s away = λ d is. elim away [
+  | inl none ↦ let two : None ≡ Some d = sym none ∙ is in absurd (cc)
+  | inr left ↦ ap (λ (x : CallState). x.is_wanted) (same_call d left_call (sym is ∙ left))
 ]
 
 part_of : (part : ℕ) (s : State) (call : ℕ) (c : CallState) → call_at call s ≡ Some c → part_at call part s ≡ slice_get c.parts part
@@ -123,6 +129,7 @@ stands_after seat es e s one may h =
                   bound = bound;
                   here = inr (record {
                     away = none_there seat.part seat.call (after e s) v.away;
+                    unwanted = unwanted_gone seat.call (after e s) v.away;
                     done = done;
                     turn = turn_after seat.caller seat.call e s may h.bound (subst (λ n. IsTurn s n seat.call) has.caller_is v.turn);
                   });
@@ -134,6 +141,7 @@ stands_after seat es e s one may h =
         bound = bound;
         here = inr (record {
           away = away_after seat.call seat.part e s may h.bound gone.away;
+          unwanted = unwanted_after seat.call e s may h.bound gone.unwanted;
           done = gone.done;
           turn = turn_after seat.caller seat.call e s may h.bound gone.turn;
         });

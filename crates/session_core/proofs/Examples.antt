@@ -10,7 +10,7 @@ use Rattle.session_core.specs.declared.part.PartOrder.TheVariants.{OfSlot, Whole
 use Rattle.session_core.specs.LinkEvents as link
 use Rattle.session_core.specs.Part as part
 use Rattle.session_core.specs.Part.{PartState, Waits, have_order, is_refusal}
-use Rattle.session_core.specs.State.{CallState, State, Event, Open, On, Begin, Finish, start, call_at, part_at, Has, lets_by, MayAsk, after, Run}
+use Rattle.session_core.specs.State.{CallState, State, Event, Open, On, Begin, Finish, start, call_at, part_at, Has, lets_by, AreApart, MayAsk, after, Run}
 use Rattle.session_core.specs.History.{CallPart, Began, Asked, Refused, Unwritten, Settled, takes_effect, may_all_follow}
 use Rattle.session_core.proofs.AfterEvents.{call_is, same_call}
 use Rattle.session_core.proofs.Waiting.{same_part}
@@ -126,6 +126,10 @@ goes_ahead (suc n) q p lt has = absurd (omega arith)
 none_later : (n q : ℕ) (p : PartState) → 1 < n → Has asked_1 7 n q p → ⊥
 none_later n q p lt has = past asked_1 _ _ 7 n q p refl refl lt has
 
+one_apart : (x : PartState) → AreApart (x ∷ [])
+one_apart x i zero p q lt a b = absurd (omega arith)
+one_apart x i (suc j) p q lt a b = absurd (cc)
+
 may_put_1 : MayAsk begun_2 0 0 0 (codes "SET a 1")
 may_put_1 = record {
   caller = 7;
@@ -178,10 +182,10 @@ a_run = (
   record { may = (omega arith, λ c is. cc); is = refl },
   (
     begun_1,
-    record { may = (refl, refl); is = refl },
+    record { may = (refl, refl, one_apart set_1); is = refl },
     (
       begun_2,
-      record { may = (refl, refl); is = refl },
+      record { may = (refl, refl, one_apart set_2); is = refl },
       (
         asked_1,
         record { may = record { channel = _; link_is = refl; may = (refl, ((λ e. cc), omega arith)); may_put = part_alone begun_2 0 0 0 (codes "SET a 1") may_put_1 }; is = refl },
@@ -277,7 +281,7 @@ a_reply_comes = (
   record { may = (omega arith, λ c is. cc); is = refl },
   (
     begun_1,
-    record { may = (refl, refl); is = refl },
+    record { may = (refl, refl, one_apart set_1); is = refl },
     (
       asked_alone,
       record { may = record { channel = _; link_is = refl; may = (refl, ((λ e. cc), omega arith)); may_put = part_alone begun_1 0 0 0 (codes "SET a 1") alone }; is = refl },

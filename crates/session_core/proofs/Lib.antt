@@ -11,6 +11,7 @@ pub mod Ordering
 pub mod Turns
 pub mod Answering
 pub mod OnLinks
+pub mod Outcomes
 pub mod Puts
 mod Examples
 pub mod PlaceLists

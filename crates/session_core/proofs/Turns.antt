@@ -1,12 +1,16 @@
 -- A caller's calls finish in the order in which they began.
-use Rattle.std.proofs.Common.{◌≡◌, ◌<◌, ◌++◌, ◌&&◌, inl, inr, ℕ, Bool, true, false, not, List, [], ◌∷◌, Some, refl, sym, ap, ◌∙◌, subst, arith}
+use Rattle.std.proofs.Common.{◌≡◌, ◌<◌, ◌++◌, ◌&&◌, ◌⊎◌, inl, inr, ℕ, Bool, true, false, not, List, [], ◌∷◌, Some, refl, sym, ap, ◌∙◌, subst, arith}
+use Rattle.std.specs.Prelude.{Contains}
 use Rattle.std.proofs.lemmas.Bool.{false≢true, eqb-true, eq-eqb, cases_order}
+use Rattle.std.proofs.lemmas.List.Elements.{Contains-append_left, Contains-push, Contains-push_cases}
 use Rattle.resp_core.proofs.Cases.{by_test, and_first, and_second}
 use Rattle.session_core.specs.Channel.{Ask}
 use Rattle.session_core.specs.LinkEvents as link
+use Rattle.session_core.specs.Part.{PartState}
 use Rattle.session_core.specs.State.{CallState, State, Event, Open, On, Forget, Begin, GiveUp, End, Finish, Leave, Trim, start, begun, call_at, asks, unwants, May, MayFinish, Happens, after, Run}
-use Rattle.session_core.proofs.Runs.{split_run}
-use Rattle.session_core.proofs.AfterEvents.{has_begun, begun_after, call_came}
+use Rattle.session_core.specs.History.{HasEnded}
+use Rattle.session_core.proofs.Runs.{always, split_run}
+use Rattle.session_core.proofs.AfterEvents.{nothing_in, has_begun, begun_after, call_goes, call_came, begins}
 use Rattle.session_core.proofs.Waiting.{may_ask}
 
 -- The call is there, is this caller's, and is wanted.
@@ -42,13 +46,7 @@ wanted_along (e ∷ events) s t caller call run bound w =
 unwanted_begun : (call : ℕ) (e : Event) (s : State) → May e s → unwants call e ≡ true → call < begun s
 unwanted_begun call (GiveUp c) s may h = subst (λ n. n < begun s) (eqb-true c call h) may
 unwanted_begun call (Finish c state) s may h = subst (λ n. n < begun s) (eqb-true c call h) (has_begun c s state may.call_is)
-unwanted_begun call (Open m most) s may h = absurd (false≢true h)
-unwanted_begun call (On m event) s may h = absurd (false≢true h)
-unwanted_begun call (Forget m) s may h = absurd (false≢true h)
-unwanted_begun call (Begin c caller parts) s may h = absurd (false≢true h)
-unwanted_begun call (End c q cause) s may h = absurd (false≢true h)
-unwanted_begun call (Leave c) s may h = absurd (false≢true h)
-unwanted_begun call Trim s may h = absurd (false≢true h)
+unwanted_begun call e s may h = absurd (false≢true h)
 
 -- what happens after an event that ends a call, before a state in which it is wanted
 never_wanted : (e : Event) (mid : List Event) (old now last : State) (caller call : ℕ) → Happens old e now → Run now mid last → unwants call e ≡ true → IsWanted last caller call → ⊥
@@ -102,4 +100,43 @@ in_turn before mid more s first second a b run caller =
         | inl lt ↦ lt
         | inr gt ↦ absurd (not_after mid one.0 one.2.0 two.0 first second a b one.2.1 two.1 two.2.1.may caller gt)
       ]
+    ]
+
+-- ---- a call that began is wanted until it ends
+
+wanted_after : (e : Event) (s : State) (caller call : ℕ) → May e s → IsWanted s caller call → (unwants call e ≡ true) ⊎ IsWanted (after e s) caller call
+wanted_after e s caller call may w = elim (call_goes e call s w.state may w.call_is) [
+  | inl d ↦ by_test (unwants call e) (λ k. inl k)
+      (λ k. inr (record { state = d.0; call_is = d.1; wanted = d.2.wanted ∙ rw (w.wanted, k) refl; caller_is = d.2.caller ∙ w.caller_is }))
+  | inr v ↦ absurd (false≢true (sym v.unwanted ∙ w.wanted))
+]
+
+ended_or_wanted : (caller call : ℕ) (parts : List PartState) (events : List Event) (s : State) → Run start events s → Contains events (Begin call caller parts) → HasEnded call events ⊎ IsWanted s caller call
+ended_or_wanted caller call parts events s run began = always (λ es t. Contains es (Begin call caller parts) → HasEnded call es ⊎ IsWanted t caller call)
+    (λ b. absurd (nothing_in _ b))
+    (λ es e t reached may old b. elim (Contains-push_cases es e (Begin call caller parts) b) [
+      | inl before ↦ elim (old before) [
+        | inl ended ↦ inl (record { event = ended.event; among = Contains-append_left es (e ∷ []) ended.event ended.among; ends = ended.ends })
+        | inr w ↦ elim (wanted_after e t caller call may w) [
+          | inl now ↦ inl (record { event = e; among = Contains-push es e; ends = now })
+          | inr still ↦ inr still
+        ]
+      ]
+      | inr now ↦
+          let first = (subst (λ x. May x t) now may).0 in
+          inr (record {
+            state = record { caller = caller; parts = parts; is_wanted = true };
+            call_is = ap (λ x. call_at call (after x t)) now ∙ begins call caller parts t first;
+            wanted = refl;
+            caller_is = refl;
+          })
+    ])
+    events s run began
+
+pub ended_first : (before more : List Event) (s : State) (first second : ℕ) (parts : List PartState) (b : CallState) → Run start (before ++ Finish second b ∷ more) s → Contains before (Begin first b.caller parts) → first < second → HasEnded first before
+ended_first before more s first second parts b run began lt =
+    let r = split_run before (Finish second b ∷ more) start s run in
+    elim (ended_or_wanted b.caller first parts before r.0 r.1 began) [
+      | inl ended ↦ ended
+      | inr w ↦ absurd (false≢true (sym (r.2.1.may.turn first w.state lt w.call_is w.caller_is) ∙ w.wanted))
     ]

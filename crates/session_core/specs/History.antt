@@ -1,11 +1,11 @@
 -- Whole runs of a session, and what holds of each.
-use Rattle.std.specs.Prelude.{◌≡◌, ◌+◌, ◌≤◌, ◌++◌, ◌&&◌, ◌==◌, ◌⊎◌, ℕ, Bool, true, false, if◌then◌else◌, List, [], ◌∷◌, Option, None, Some, Contains, slice_get}
+use Rattle.std.specs.Prelude.{◌≡◌, ◌+◌, ◌<◌, ◌≤◌, ◌++◌, ◌&&◌, ◌==◌, ◌⊎◌, ℕ, Bool, true, false, if◌then◌else◌, List, [], ◌∷◌, Option, None, Some, Contains, slice_get}
 use Rattle.std.specs.List.{filter_map, last_or, count_by, fold}
 use Rattle.session_core.specs.declared.link.Ticket.TheVariants.{Part}
 use Rattle.session_core.specs.Channel.{Ask}
 use Rattle.session_core.specs.LinkEvents as link
 use Rattle.session_core.specs.Part.{PartState, is_on, is_refusal, have_slot}
-use Rattle.session_core.specs.State.{Event, Open, On, Begin, is_part, asks}
+use Rattle.session_core.specs.State.{Event, Open, On, Begin, is_part, asks, unwants}
 
 -- A part of a call: its caller, the numbers of call and part, and what it is when its call begins.
 pub record CallPart : Type 0 where
@@ -115,6 +115,21 @@ pub record InOrder (first second : CallPart) (events : List Event) : Type 0 wher
   pub ahead : ((steps first mid ≡ []) × (at_first ≡ at_second)
       × (have_slot first.began.order second.began.order ≡ true))
       ⊎ (steps first mid ≡ Settled ∷ [])
+
+-- A later part of its caller and slot was settled.
+pub record WasPassed (seat : CallPart) (events : List Event) : Type 0 where
+  pub later : CallPart
+  pub began : Began events later
+  pub caller_is : later.caller ≡ seat.caller
+  pub is_later : seat.call < later.call
+  pub same_slot : have_slot seat.began.order later.began.order ≡ true
+  pub settled : last_or None (steps later events) ≡ Some Settled
+
+-- The call was given up, or has its reply.
+pub record HasEnded (call : ℕ) (events : List Event) : Type 0 where
+  pub event : Event
+  pub among : Contains events event
+  pub ends : unwants call event ≡ true
 
 -- ---- where the reply of a part comes from
 

@@ -38,6 +38,12 @@ abbrev pub is_on : ℕ → Phase → Bool
 is_on number (Asked link left) = link == number
 is_on number other = false
 
+-- it ran, or may have run
+abbrev pub is_settled : Phase → Bool
+is_settled (Answered reply) = true
+is_settled Lost = true
+is_settled other = false
+
 -- it ran, may have run, or may yet
 abbrev pub is_effective : Phase → Bool
 is_effective (Asked link left) = true

@@ -7,10 +7,10 @@ use Rattle.session_core.specs.declared.link.Ticket.TheVariants.{Part}
 use Rattle.session_core.specs.declared.link.Wait.{Wait}
 use Rattle.session_core.specs.declared.link.Standing.TheVariants.{Ended}
 use Rattle.session_core.specs.declared.part.Cause.{Cause}
-use Rattle.session_core.specs.declared.part.Cause.TheVariants.{GivenUp}
+use Rattle.session_core.specs.declared.part.Cause.TheVariants.{Overtaken, GivenUp, Late, NoNode}
 use Rattle.session_core.specs.Channel.{Channel, Ask, fresh}
 use Rattle.session_core.specs.LinkEvents as link
-use Rattle.session_core.specs.Part.{Phase, PartState, is_waiting, is_on, is_done, is_effective, have_slot, have_order, is_refusal, phase_asked, phase_told, phase_lost, phase_ended}
+use Rattle.session_core.specs.Part.{Phase, PartState, is_waiting, is_on, is_done, is_settled, is_effective, have_slot, have_order, is_refusal, phase_asked, phase_told, phase_lost, phase_ended}
 
 pub record CallState : Type 0 where
   pub caller : ℕ
@@ -29,6 +29,10 @@ pub record State : Type 0 where
 
 abbrev pub start : State
 start = record { links = []; first = 0; calls = [] }
+
+-- Nothing was done for a call: none of its parts ran, may have run or may yet.
+abbrev pub nothing_done : CallState → Bool
+nothing_done state = list_all (λ p. not (is_effective p.phase)) state.parts
 
 -- how many calls have begun, which is the number of the next
 abbrev pub begun : State → ℕ
@@ -191,6 +195,32 @@ pub record MayOn (number : ℕ) (event : link.Event) (s : State) : Type 0 where
   pub may : link.May event channel
   pub may_put : MayPut s number event
 
+-- A later part of its caller and slot is settled, so this part of that call is not asked any more.
+pub record IsPassed (s : State) (call part : ℕ) : Type 0 where
+  pub caller : ℕ
+  pub it : PartState
+  pub has : Has s caller call part it
+  pub later : ℕ
+  pub later_part : ℕ
+  pub other : PartState
+  pub has_later : Has s caller later later_part other
+  pub is_later : call < later
+  pub same_slot : have_slot it.order other.order ≡ true
+  pub settled : is_settled other.phase ≡ true
+
+-- Why a part that waits may be ended. Whether its time is over, and whether it has a node, is told
+-- from outside. A call is given up as a whole.
+abbrev pub MayEnd : State → ℕ → ℕ → Cause → Type 0
+MayEnd s call part Overtaken = IsPassed s call part
+MayEnd s call part GivenUp = ⊥
+MayEnd s call part Late = Unit {0}
+MayEnd s call part NoNode = Unit {0}
+
+-- Two parts of a call have two slots, if they have any.
+abbrev pub AreApart : List PartState → Type 0
+AreApart parts = (i j : ℕ) (p q : PartState) → i < j → slice_get parts i ≡ Some p
+    → slice_get parts j ≡ Some q → have_slot p.order q.order ≡ false
+
 -- Nobody waits for the reply to an earlier call of this caller.
 abbrev pub IsTurn : State → ℕ → ℕ → Type 0
 IsTurn s caller call = (n : ℕ) (state : CallState) → n < call → call_at n s ≡ Some state
@@ -217,13 +247,14 @@ May (Open number most) s = (number ≤ length s.links) × ((c : Channel) → IsL
 May (On number event) s = MayOn number event s
 -- the link ended, and nobody waits on it
 May (Forget number) s = (c : Channel) × IsLink s number c × (c.standing ≡ Ended) × (c.waits ≡ [])
--- the number is the next one, and each part waits
-May (Begin call caller parts) s = (call ≡ begun s) × (list_all (λ p. is_waiting p.phase) parts ≡ true)
+-- the number is the next one, and each part waits, one for each slot
+May (Begin call caller parts) s = (call ≡ begun s)
+    × (list_all (λ p. is_waiting p.phase) parts ≡ true) × AreApart parts
 -- the call has begun
 May (GiveUp call) s = call < begun s
--- the part waits
+-- the part waits, and has this cause
 May (End call part cause) s = (p : PartState) × (part_at call part s ≡ Some p)
-    × (is_waiting p.phase ≡ true)
+    × (is_waiting p.phase ≡ true) × MayEnd s call part cause
 May (Finish call state) s = MayFinish call state s
 May (Leave call) s = MayLeave call s
 -- the first call left

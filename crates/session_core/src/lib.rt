@@ -25,5 +25,5 @@ pub use lane::{Askable, Lane, LanePart, Overtaken, Seat, Status};
 pub use laws::{each_link, take_or_break};
 pub use link::{BreakCause, Link, Standing, Taken, Ticket, Wait};
 pub use part::{Cause, PartOrder};
-pub use promises::{answered, given_up, in_order, in_turn, mine, once, single};
+pub use promises::{answered, ended, given_up, in_order, in_turn, mine, once, single, told};
 pub use replies::{OwedReply, Replies};

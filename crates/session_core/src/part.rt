@@ -12,9 +12,9 @@ pub enum PartOrder {
 /// Why a part did not run, and never will.
 #[derive(Clone, Copy, Debug, PartialEq, Eq)]
 pub enum Cause {
-    /// A later part of its caller was settled first.
+    /// A later part of its caller and slot was settled first.
     Overtaken,
-    /// Its call was given up.
+    /// Nobody waits for the reply to its call any more.
     GivenUp,
     /// The time of its call was over.
     Late,

@@ -1,11 +1,12 @@
-ghost use Rattle.std.specs.Prelude.{◌≡◌, ◌<◌, ◌++◌, ◌∷◌, ℕ, true, false, Some, if◌then◌else◌, List};
-ghost use Rattle.std.specs.List.{count_by};
-ghost use Rattle.session_core.specs.State.{CallState, State, Event, On, Finish, start, part_at, waits_at, is_part, asks, unwants, IsLink, Run};
+ghost use Rattle.std.specs.Prelude.{◌≡◌, ◌<◌, ◌++◌, ◌∷◌, not, ℕ, true, false, Some, if◌then◌else◌, List, Contains, slice_get};
+ghost use Rattle.std.specs.List.{count_by, list_all};
+ghost use Rattle.session_core.specs.declared.part.Cause.{Cause};
+ghost use Rattle.session_core.specs.State.{CallState, State, Event, On, Begin, End, Finish, start, part_at, waits_at, is_part, asks, unwants, nothing_done, IsLink, Run};
 ghost use Rattle.session_core.specs.Channel.{Ask, Channel};
 ghost use Rattle.session_core.specs.LinkEvents as link;
 ghost use Rattle.session_core.specs.LinkRuns.{IsAccounted};
-ghost use Rattle.session_core.specs.Part.{PartState, Waits, Answered, have_order};
-ghost use Rattle.session_core.specs.History.{CallPart, Began, steps, AreTries, takes_effect, InOrder, WasTaken, WasAsked, is_there, on_link};
+ghost use Rattle.session_core.specs.Part.{PartState, Phase, Waits, Answered, is_waiting, have_slot, have_order};
+ghost use Rattle.session_core.specs.History.{CallPart, Began, steps, AreTries, takes_effect, InOrder, WasPassed, HasEnded, WasTaken, WasAsked, is_there, on_link};
 
 /// A part that is on its way waits on its link, once, and on none else. Any other part waits on
 /// none. So what is told of a part is for the last time that it was asked.
@@ -30,21 +31,61 @@ pub fn once()
 ///
 /// So nodes run them in order, if each runs what comes on a link in its order, and nothing of a link
 /// that ended. A node may still run what came on a link that ended. No rule about asking prevents
-/// it.
+/// it. Two parts of one call have two slots, if they have any.
 pub fn in_order()
-    ensures { (events : List Event) (s : State) (first second : CallPart) → Run start events s
+    ensures order { (events : List Event) (s : State) (first second : CallPart) → Run start events s
         → Began events first → Began events second
         → first.caller ≡ second.caller → first.call < second.call
         → have_order first.began.order second.began.order ≡ true
         → takes_effect first events ≡ true → takes_effect second events ≡ true
         → InOrder first second events }
+    ensures apart { (events : List Event) (s : State) (first second : CallPart)
+        → Run start events s → Began events first → Began events second
+        → first.call ≡ second.call → first.part < second.part
+        → have_slot first.began.order second.began.order ≡ false }
 {}
 
-/// Of two calls of one caller that have their replies, the one that began first has it first.
+/// Of two calls of one caller that have their replies, the one that began first has it first. When a
+/// call gets its reply, each earlier call of its caller has its reply or was given up.
 pub fn in_turn()
-    ensures { (before mid more : List Event) (s : State) (first second : ℕ) (a b : CallState)
+    ensures order { (before mid more : List Event) (s : State) (first second : ℕ) (a b : CallState)
         → Run start (before ++ Finish first a ∷ (mid ++ Finish second b ∷ more)) s
         → a.caller ≡ b.caller → first < second }
+    ensures ended { (before more : List Event) (s : State) (first second : ℕ)
+        (parts : List PartState) (b : CallState) → Run start (before ++ Finish second b ∷ more) s
+        → Contains before (Begin first b.caller parts) → first < second → HasEnded first before }
+{}
+
+/// A part that waits is ended as overtaken only if a later part of its caller and slot was settled. It
+/// is ended as given up only with its whole call.
+pub fn ended()
+    ensures overtaken { (before more : List Event) (s : State) (seat : CallPart)
+        → Run start (before ++ End seat.call seat.part Cause.Overtaken ∷ more) s
+        → Began before seat → WasPassed seat before }
+    ensures given_up { (before more : List Event) (s : State) (call part : ℕ)
+        → Run start (before ++ End call part Cause.GivenUp ∷ more) s → ⊥ }
+{}
+
+/// A call that gets its reply has no part that waits. Each part is as it began, but for its phase, and
+/// the reply of an answered one was taken for it. If nothing was done for the call by then, none of
+/// its parts has an effect later.
+pub fn told()
+    ensures none_waits { (before more : List Event) (s : State) (call : ℕ) (state : CallState)
+        → Run start (before ++ Finish call state ∷ more) s
+        → list_all (λ p. not (is_waiting p.phase)) state.parts ≡ true }
+    ensures parts { (before more : List Event) (s : State) (seat : CallPart) (state : CallState)
+        → Run start (before ++ Finish seat.call state ∷ more) s → Began before seat
+        → (phase : Phase) × (slice_get state.parts seat.part
+        ≡ Some (record seat.began { phase = phase })) }
+    ensures answered { (before more : List Event) (s : State) (seat : CallPart) (state : CallState)
+        (p : PartState) (reply : List ℕ)
+        → Run start (before ++ Finish seat.call state ∷ more) s → Began before seat
+        → slice_get state.parts seat.part ≡ Some p → p.phase ≡ Answered reply
+        → WasTaken seat reply before }
+    ensures nothing_done { (before more : List Event) (s : State) (seat : CallPart)
+        (state : CallState) → Run start (before ++ Finish seat.call state ∷ more) s
+        → Began before seat → nothing_done state ≡ true
+        → takes_effect seat (before ++ Finish seat.call state ∷ more) ≡ false }
 {}
 
 /// Once a call is given up or has its reply, none of its parts is asked, and it gets no reply.
