@@ -149,7 +149,8 @@ impl Link {
         }
     }
 
-    /// Number of bytes that were asked and are not noted as written. No write was longer than this.
+    /// Number of bytes that were asked and are not noted as written. [`Link::wrote`] takes so many at
+    /// most, also on a broken link.
     pub fn count_unwritten(&self) -> usize
         ensures { result ≡ length self.now.unwritten }
     {
