@@ -1,5 +1,4 @@
-//! What a user of the layer writes: one file for each example. The program runs some of them, and
-//! prints a line for each run.
+//! What a user of the layer writes: one file for each example.
 #![tactic(auto)]
 
 pub mod batched_bytes;
@@ -21,21 +20,8 @@ pub mod registering;
 pub mod replies;
 pub mod retrying;
 pub mod routing;
-mod runs;
 pub mod sending;
 pub mod shared_strategy;
 pub mod side_by_side;
 pub mod splitting_bytes;
 pub mod threads;
-
-use std::process::ExitCode;
-
-fn main(rt: HostRuntime) -> ExitCode {
-    let Ok(map) = first_drive::two_nodes(rt.alloc()) else {
-        return ExitCode::FAILURE;
-    };
-    match runs::run(&rt, &map) {
-        Ok(()) => ExitCode::SUCCESS,
-        Err(_) => ExitCode::FAILURE,
-    }
-}
