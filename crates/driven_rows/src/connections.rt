@@ -9,7 +9,7 @@ use std::alloc::Global;
 use wire::{Any, BatchClient, BatchTransport, Logged, SendError, Transport, WireNodes, drive_over};
 
 /// Connections that return these values, the last one first, whatever is sent. In place of a simple
-/// string the reply is lost. They have no contract.
+/// string the reply is lost, and in place of `+refused` the node refuses. They have no contract.
 #[derive(Drop)]
 struct Script {
     alloc: Global,
@@ -18,11 +18,18 @@ struct Script {
     sent: usize,
 }
 
+fn error(text: &'static str) -> RedisError {
+    RedisError::from((ErrorKind::Client, text))
+}
+
 fn outcome(value: Value) -> Result<Value, SendError> {
-    if let Value::SimpleString(_) = &value {
-        return Err(SendError::Lost(RedisError::from((ErrorKind::Client, "no reply"))));
+    match &value {
+        Value::SimpleString(text) if text.as_str() == "refused" => {
+            Err(SendError::Refused(error("READONLY")))
+        }
+        Value::SimpleString(_) => Err(SendError::Lost(error("no reply"))),
+        _ => Ok(value),
     }
-    Ok(value)
 }
 
 impl Transport for Script {
@@ -40,7 +47,7 @@ impl BatchTransport for Script {
         let mut answers = Vec::new(self.alloc);
         for _ in 0..batch.len() {
             let Some(value) = self.values.pop() else {
-                return Err(SendError::Refused(RedisError::from((ErrorKind::Client, "no value"))));
+                return Err(SendError::Refused(error("no value")));
             };
             if answers.push(Ok(outcome(value)?)).is_err() {
                 return Err(SendError::Memory);
