@@ -225,6 +225,7 @@ pub fn split_node_address(text: &str) -> RedisResult<(&str, u16)>
     host_and_port(text).ok_or(RedisError::from(invalid))
 }
 
+/// The host without brackets, and the port after the last colon.
 fn host_and_port(text: &str) -> Option<(&str, u16)>
     ensures { MatchOption result (IsNoAddress text.now)
         (λ named. IsAddressText text.now named.0.now named.1) }

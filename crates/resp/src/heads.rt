@@ -22,6 +22,7 @@ pub(super) enum Kind {
     Attribute,
 }
 
+/// The kind of a reply that begins with this byte.
 #[tactic(auto, unfolding(crate::specs::Messages::kind_of))]
 fn kind_of(mark: u8) -> Option<Kind>
     ensures { result ≡ kind_of mark }

@@ -74,6 +74,7 @@ fn gathered(items: Result<Vec<Value>, Vec<u8>>) -> Response
     }
 }
 
+/// The reply at the front, with at most this many levels of arrays, and the bytes after it.
 #[cycle(reading)]
 fn response_at(alloc: Global, bytes: &[u8], levels: u8) -> Result<(Response, &[u8]), ReadError>
     ensures { Gives (λ x. (answer x.0, x.1.now)) result (answer_at levels bytes.now) }
@@ -96,6 +97,7 @@ fn response_at(alloc: Global, bytes: &[u8], levels: u8) -> Result<(Response, &[u
     Ok((gathered(items), rest))
 }
 
+/// This many replies at the front, or the first error among them, and the bytes after them.
 #[cycle(reading)]
 fn items_at(
     alloc: Global,

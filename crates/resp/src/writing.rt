@@ -128,6 +128,7 @@ fn is_one_line(text: &[u8]) -> bool
     true
 }
 
+/// Adds a simple string. `OK` has no such form: it is read as `Value::Okay`.
 fn push_simple(out: &mut Vec<u8>, text: &str) -> Result<(), WriteError>
     ensures bytes { OnOk result (out.new.items ≡ out.old.items ++ form (simple text.now)) }
     ensures form { OnOk result (HasForm (simple text.now)) }
@@ -140,6 +141,7 @@ fn push_simple(out: &mut Vec<u8>, text: &str) -> Result<(), WriteError>
     Ok(())
 }
 
+/// Adds the form of a value that has at most this many levels of arrays.
 #[cycle(writing)]
 fn push_value(out: &mut Vec<u8>, value: &Value, levels: u8) -> Result<(), WriteError>
     ensures bytes { OnOk result (out.new.items ≡ out.old.items ++ form (view value.now)) }
@@ -169,6 +171,7 @@ fn push_value(out: &mut Vec<u8>, value: &Value, levels: u8) -> Result<(), WriteE
     Ok(())
 }
 
+/// Adds the forms of values, one after another.
 #[cycle(writing)]
 fn push_values(out: &mut Vec<u8>, values: &[Value], levels: u8) -> Result<(), WriteError>
     ensures bytes { OnOk result (out.new.items

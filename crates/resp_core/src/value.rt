@@ -141,6 +141,7 @@ impl Clone for Value {
 /// by lists, so that the stack does not grow with depth.
 const RECURSED_LEVELS: usize = 32;
 
+/// A copy of a value. Below this many levels it is made by lists.
 #[cycle(copy)]
 fn copy_value(value: &Value, levels: usize) -> Result<Value, AllocError>
     ensures { IfOk result (λ copy. view copy ≡ view value.now) }
@@ -155,6 +156,7 @@ fn copy_value(value: &Value, levels: usize) -> Result<Value, AllocError>
     }
 }
 
+/// Copies of the items of an array.
 #[cycle(copy)]
 fn copy_items(items: &Vec<Value>, levels: usize) -> Result<Vec<Value>, AllocError>
     ensures { IfOk result (λ copies. map view copies.items ≡ map view items.now.items) }
@@ -233,6 +235,7 @@ fn same_if_deep(alloc: Global, a: &Value, b: &Value, levels: usize) -> Option<bo
     same_by_list(alloc, a, b).ok()
 }
 
+/// Whether two arrays have equal items.
 #[cycle(same)]
 fn same_items(xs: &[Value], ys: &[Value], levels: usize) -> bool
     ensures { IsTrue result ↔ (map view xs.now ≡ map view ys.now) }
@@ -248,6 +251,7 @@ fn same_items(xs: &[Value], ys: &[Value], levels: usize) -> bool
     true
 }
 
+/// Whether two maps have equal pairs in the same order.
 #[cycle(same)]
 fn same_pairs(xs: &[(Value, Value)], ys: &[(Value, Value)], levels: usize) -> bool
     ensures { IsTrue result ↔ (map view_pair xs.now ≡ map view_pair ys.now) }

@@ -66,6 +66,7 @@ fn add_inside<'a>(
     }
 }
 
+/// Adds the items of two arrays, place by place. `false` if the arrays differ.
 fn add_items<'a>(
     waiting: &mut Vec<(&'a Value, &'a Value)>,
     xs: &'a [Value],
@@ -91,6 +92,7 @@ fn add_items<'a>(
     Ok(true)
 }
 
+/// Adds the keys and the values of two maps, place by place. `false` if the maps differ.
 fn add_pairs<'a>(
     waiting: &mut Vec<(&'a Value, &'a Value)>,
     xs: &'a [(Value, Value)],

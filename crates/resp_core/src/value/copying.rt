@@ -52,6 +52,7 @@ fn in_order(alloc: Global, value: &Value) -> Result<Vec<&Value>, AllocError>
     Ok(order)
 }
 
+/// Adds what is directly inside a value.
 fn add_inside<'a>(waiting: &mut Vec<&'a Value>, value: &'a Value) -> Result<(), AllocError>
     ensures { OnOk result (map (λ v. view v.now) waiting.new.items
         ≡ map (λ v. view v.now) waiting.old.items ++ inside (view value.now)) }
@@ -74,6 +75,7 @@ fn add_items<'a>(waiting: &mut Vec<&'a Value>, items: &'a Vec<Value>) -> Result<
     Ok(())
 }
 
+/// Adds the pairs from the last to the first, each value before its key.
 fn add_pairs<'a>(
     waiting: &mut Vec<&'a Value>,
     items: &'a Vec<(Value, Value)>,

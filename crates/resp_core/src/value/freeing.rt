@@ -114,6 +114,7 @@ impl Value {
     }
 }
 
+/// The last array or map, and the items before it. The first item is returned whatever it is.
 fn next_item(mut items: Vec<Value>) -> Option<(Value, Value)>
     ensures { IfSome result (λ next. steps_in (view next.0) + steps_above (view next.1)
         ≤ steps_above (array (replies_of (map view items.items)))) }
@@ -131,6 +132,7 @@ fn next_item(mut items: Vec<Value>) -> Option<(Value, Value)>
     None
 }
 
+/// The last value that is left, and the pairs with its key. The first pair is taken apart.
 fn next_in_pairs(mut items: Vec<(Value, Value)>) -> Option<(Value, Value)>
     ensures { IfSome result (λ next. steps_in (view next.0) + steps_above (view next.1)
         ≤ steps_above (pairs (pairs_of (map view_pair items.items)))) }
