@@ -1,14 +1,12 @@
-//! What keeps the order of a caller: the parts of a slot, its calls, and whose reply is next.
-use fixtures::{bad_row, cut, debug, number, okay, two};
+//! What keeps the order of a caller: its parts, and whose reply is next.
+use fixtures::{bad_row, debug, number, okay};
 use resp_core::RedisResult;
-use session_core::{CallOrder, Caller, Lane, Replies, Seat};
+use session_core::{CallerOrder, PartOrder, Replies};
 use std::alloc::Global;
 
-/// The lane, the calls and the replies of earlier rows.
+/// The replies of earlier rows.
 #[derive(Drop)]
 pub struct Order {
-    lane: Lane,
-    caller: Caller,
     replies: Replies,
 }
 
@@ -16,8 +14,6 @@ impl Order {
     /// A caller without calls.
     pub fn new(alloc: Global) -> Order {
         Order {
-            lane: Lane::new(alloc),
-            caller: Caller::new(alloc),
             replies: Replies::new(alloc),
         }
     }
@@ -26,10 +22,8 @@ impl Order {
     pub fn call(&mut self, alloc: Global, name: &str, words: &str) -> RedisResult<String> {
         match name {
             "new" => *self = Order::new(alloc),
-            "join" => return debug(alloc, &self.lane.join(alloc, seat(words)?)?),
-            "askable" => return debug(alloc, &self.lane.askable()),
-            "begin" => return debug(alloc, &begin(&mut self.caller, words)?),
-            "release" => return debug(alloc, &self.caller.release()),
+            "join" => return joined(alloc, number(words)?),
+            "barred" => return barred(alloc, number(words)?),
             "owe" => return debug(alloc, &self.replies.begin(number(words)?)?),
             "next" => return debug(alloc, &self.replies.next_reply()),
             _ => return Err(bad_row("no call of this name")),
@@ -38,23 +32,17 @@ impl Order {
     }
 }
 
-/// A part of a call, as `7.0`.
-fn seat(words: &str) -> RedisResult<Seat> {
-    let (call, part) = cut(words, ".");
-    Ok(Seat {
-        call: number(call)?,
-        part: number(part)?,
-    })
+/// The first part of a caller, if it may be asked.
+fn joined(alloc: Global, slot: u16) -> RedisResult<String> {
+    let mut parts = CallerOrder::new(alloc);
+    parts.join(alloc, 7, &[PartOrder::OfSlot(slot)])?;
+    debug(alloc, &parts.askable(0))
 }
 
-/// Begins a call of a number, with `slots`, `whole` or `free`.
-fn begin(caller: &mut Caller, words: &str) -> RedisResult<u64> {
-    let (call, word) = two(words);
-    let order = match word {
-        "slots" => CallOrder::Slots,
-        "whole" => CallOrder::Whole,
-        "free" => CallOrder::Free,
-        _ => return Err(bad_row("not slots, whole or free")),
-    };
-    Ok(caller.begin(number(call)?, order)?)
+/// A part without a slot after one with a slot, if it may be asked.
+fn barred(alloc: Global, slot: u16) -> RedisResult<String> {
+    let mut parts = CallerOrder::new(alloc);
+    parts.join(alloc, 7, &[PartOrder::OfSlot(slot)])?;
+    parts.join(alloc, 8, &[PartOrder::Whole])?;
+    debug(alloc, &parts.askable(1))
 }

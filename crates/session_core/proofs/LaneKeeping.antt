@@ -1,19 +1,19 @@
 -- What a lane keeps beside its parts tells at once which part may be asked.
-use Rattle.std.proofs.Common.{◌≡◌, ◌≢◌, ◌<◌, ◌≤◌, ◌+◌, ◌-◌, ◌^◌, ◌++◌, ◌⊎◌, inl, inr, ℕ, zero, suc, true, List, [], ◌∷◌, length, length-append, length-drop, length-set, set, take, replicate, max, Option, None, Some, refl, sym, ap, ◌∙◌, subst, arith, get_or-set_same, get_or-set_other}
+use Rattle.std.proofs.Common.{◌≡◌, ◌≢◌, ◌<◌, ◌≤◌, ◌+◌, ◌-◌, ◌^◌, ◌++◌, ◌⊎◌, inl, inr, ℕ, zero, suc, true, List, [], ◌∷◌, length, length-append, length-drop, length-set, length-take, set, take, replicate, max, Option, None, Some, refl, sym, ap, ◌∙◌, subst, arith, get_or-set_same, get_or-set_other}
 use Rattle.std.specs.List.{slice_get}
 use Rattle.std.specs.Option.{option_map}
 use Rattle.std.proofs.lemmas.List.{get_or-replicate, length-replicate}
 use Rattle.std.proofs.lemmas.Bool.{cases_lt, cases_eq, false≢true}
-use Rattle.session_core.specs.declared.lane.Seat.{Seat}
 use Rattle.session_core.specs.declared.lane.LanePart.{LanePart}
-use Rattle.session_core.specs.declared.lane.Status.{Status}
-use Rattle.session_core.specs.declared.lane.Status.TheVariants.{Waits, Asked, Settled, Unsent}
+use Rattle.session_core.specs.declared.ordered_part.Status.{Status}
+use Rattle.session_core.specs.declared.ordered_part.Status.TheVariants.{Waits, Asked, Settled, Unsent}
 use Rattle.session_core.specs.declared.summary_tree.Summary.{Summary}
-use Rattle.session_core.specs.Lane.{Lane, no_parts, status_at, is_done, LetsPass, LetsBack, MayAsk, IsOvertaken, marked, with_status, joined, forgotten}
+use Rattle.session_core.specs.Order.{is_done}
+use Rattle.session_core.specs.Inner.Lane.{Lane, no_parts, status_at, LetsPass, LetsBack, MayAsk, IsOvertaken, marked, with_status, joined, forgotten, without_last}
 use Rattle.session_core.specs.Inner.Summaries.{nothing, summary_of, node, IsOver, IsTreeOf}
 use Rattle.session_core.specs.Inner.Kept.{IsKept, MayBecome}
 use Rattle.session_core.proofs.SummaryTrees.{max_is}
-use Rattle.session_core.proofs.LanePlaces.{within, status_from, status_past, marked_same, marked_other, length-marked, joined_last, joined_other, forgot_other, forgot_first}
+use Rattle.session_core.proofs.LanePlaces.{within, status_from, status_past, marked_same, marked_other, length-marked, joined_last, joined_other, forgot_other, forgot_first, left_status, left_none}
 
 -- ---- what the root tells
 
@@ -279,12 +279,12 @@ links_stay lane base settled_end on place s was leaves k e not at other q =
       | inr ne ↦ k.on_link at other (sym (marked_other place at s lane w.0 ne) ∙ q)
     ]
 
-pub kept_joined : (lane : Lane) (base settled_end on : ℕ) (seat : Seat) (leaves : List Summary) → IsKept lane base leaves settled_end on
+pub kept_joined : (lane : Lane) (base settled_end on : ℕ) (number : ℕ) (leaves : List Summary) → IsKept lane base leaves settled_end on
     → lane.first + length lane.parts < base + length leaves → lane.first + length lane.parts + 1 < 2 ^ 64
-    → IsKept (joined seat lane) base (set leaves (lane.first + length lane.parts - base) (summary_of (lane.first + length lane.parts) (Some Waits))) settled_end on
-kept_joined lane base settled_end on seat leaves k more bound =
+    → IsKept (joined number lane) base (set leaves (lane.first + length lane.parts - base) (summary_of (lane.first + length lane.parts) (Some Waits))) settled_end on
+kept_joined lane base settled_end on number leaves k more bound =
     let end : ℕ = lane.first + length lane.parts in
-    let many = length-append lane.parts (record { seat = seat; status = Waits } ∷ []) in
+    let many = length-append lane.parts (record { number = number; status = Waits } ∷ []) in
     let s : Summary = summary_of (lane.first + length lane.parts) (Some Waits) in
     let new : ℕ = lane.first + length lane.parts - base in
     let inside : lane.first + length lane.parts - base < length leaves = omega (arith, k.base_first, more) in
@@ -293,40 +293,40 @@ kept_joined lane base settled_end on seat leaves k more bound =
         | inl same ↦ let at : base + j ≡ lane.first + length lane.parts = omega (arith, same, k.base_first) in
             ap (node (set leaves (lane.first + length lane.parts - base) s)) same
             ∙ get_or-set_same leaves (lane.first + length lane.parts - base) s nothing inside
-            ∙ ap (summary_of (lane.first + length lane.parts)) (sym (joined_last seat lane))
-            ∙ ap (λ p. summary_of p (status_at p (joined seat lane))) (sym at)
+            ∙ ap (summary_of (lane.first + length lane.parts)) (sym (joined_last number lane))
+            ∙ ap (λ p. summary_of p (status_at p (joined number lane))) (sym at)
         | inr ne ↦ let apart : base + j ≢ lane.first + length lane.parts = omega arith in
             get_or-set_other leaves (lane.first + length lane.parts - base) j s nothing ne
             ∙ k.leaf j (omega (arith, lt, length-set leaves (lane.first + length lane.parts - base) s))
-            ∙ ap (summary_of (base + j)) (sym (joined_other seat lane (base + j) apart))
+            ∙ ap (summary_of (base + j)) (sym (joined_other number lane (base + j) apart))
       ];
       base_first = k.base_first;
       room = omega (arith, more, many, length-set leaves (lane.first + length lane.parts - base) s);
       none_settled = λ at le q. elim (cases_eq at (lane.first + length lane.parts)) [
-        | inl same ↦ let is : Some Waits ≡ Some Settled = sym (joined_last seat lane) ∙ ap (λ p. status_at p (joined seat lane)) (sym same) ∙ q in
+        | inl same ↦ let is : Some Waits ≡ Some Settled = sym (joined_last number lane) ∙ ap (λ p. status_at p (joined number lane)) (sym same) ∙ q in
             absurd (cc)
-        | inr ne ↦ k.none_settled at le (sym (joined_other seat lane at ne) ∙ q)
+        | inr ne ↦ k.none_settled at le (sym (joined_other number lane at ne) ∙ q)
       ];
       last_settled = λ at is le.
           let ne : at ≢ lane.first + length lane.parts = omega (arith, is, k.settled_within) in
-          joined_other seat lane at ne ∙ k.last_settled at is le;
+          joined_other number lane at ne ∙ k.last_settled at is le;
       settled_within = omega (arith, k.settled_within, many);
       on_link = λ at other q. elim (cases_eq at (lane.first + length lane.parts)) [
-        | inl same ↦ let is : Some Waits ≡ Some (Asked other) = sym (joined_last seat lane) ∙ ap (λ p. status_at p (joined seat lane)) (sym same) ∙ q in
+        | inl same ↦ let is : Some Waits ≡ Some (Asked other) = sym (joined_last number lane) ∙ ap (λ p. status_at p (joined number lane)) (sym same) ∙ q in
             absurd (cc)
-        | inr ne ↦ k.on_link at other (sym (joined_other seat lane at ne) ∙ q)
+        | inr ne ↦ k.on_link at other (sym (joined_other number lane at ne) ∙ q)
       ];
       fits = omega (arith, bound, many);
     }
 
-pub joined_as_written : (lane : Lane) (base settled_end on place : ℕ) (seat : Seat) (leaves written : List Summary) (parts : List LanePart) (summary : Summary)
+pub joined_as_written : (lane : Lane) (base settled_end on place : ℕ) (number : ℕ) (leaves written : List Summary) (parts : List LanePart) (summary : Summary)
     → IsKept lane base leaves settled_end on → place ≡ lane.first + length lane.parts → place < base + length leaves → place + 1 < 2 ^ 64
-    → parts ≡ lane.parts ++ record { seat = seat; status = Waits } ∷ [] → summary ≡ summary_of place (Some Waits) → written ≡ set leaves (place - base) summary
+    → parts ≡ lane.parts ++ record { number = number; status = Waits } ∷ [] → summary ≡ summary_of place (Some Waits) → written ≡ set leaves (place - base) summary
     → IsKept (record { first = lane.first; parts = parts }) base written settled_end on
-joined_as_written lane base settled_end on place seat leaves written parts summary k at room fits joins sums writes =
+joined_as_written lane base settled_end on place number leaves written parts summary k at room fits joins sums writes =
     subst (λ ps. IsKept (record { first = lane.first; parts = ps }) base written settled_end on) (sym joins)
-    (subst (λ ls. IsKept (joined seat lane) base ls settled_end on) (sym (writes ∙ ap (set leaves (place - base)) sums ∙ ap (λ p. set leaves (p - base) (summary_of p (Some Waits))) at))
-    (kept_joined lane base settled_end on seat leaves k (omega (arith, room, at)) (omega (arith, fits, at))))
+    (subst (λ ls. IsKept (joined number lane) base ls settled_end on) (sym (writes ∙ ap (set leaves (place - base)) sums ∙ ap (λ p. set leaves (p - base) (summary_of p (Some Waits))) at))
+    (kept_joined lane base settled_end on number leaves k (omega (arith, room, at)) (omega (arith, fits, at))))
 
 -- the summaries are made anew
 pub kept_rebuilt : (lane : Lane) (base settled_end on : ℕ) (leaves fresh : List Summary) → IsKept lane base leaves settled_end on → IsTreeOf lane.first lane.parts fresh → IsKept lane lane.first fresh settled_end on
@@ -378,6 +378,60 @@ kept_forgot lane base settled_end on s leaves k e done =
       ];
       fits = omega (arith, k.fits, many, w.1);
     }
+
+-- ---- the last part is taken back
+
+length_left : (lane : Lane) → 0 < length lane.parts → length (without_last lane).parts + 1 ≡ length lane.parts
+length_left lane some = omega (arith, length-take (length lane.parts - 1) lane.parts)
+
+pub kept_left : (lane : Lane) (base settled_end on last : ℕ) (leaves : List Summary) → IsKept lane base leaves settled_end on → last + 1 ≡ lane.first + length lane.parts → status_at last lane ≡ Some Waits
+    → IsKept (without_last lane) base (set leaves (last - base) nothing) settled_end on
+kept_left lane base settled_end on last leaves k end e =
+    let w = within last lane Waits e in
+    let some : 0 < length lane.parts = omega (arith, w.0, w.1) in
+    let many = length_left lane some in
+    let inside : last - base < length leaves = omega (arith, w.0, w.1, k.base_first, k.room) in
+    record {
+      leaf = λ j lt. elim (cases_eq j (last - base)) [
+        | inl same ↦ let at : base + j ≡ last = omega (arith, same, w.0, k.base_first) in
+            ap (node (set leaves (last - base) nothing)) same
+            ∙ get_or-set_same leaves (last - base) nothing nothing inside
+            ∙ ap (summary_of (base + j)) (sym (ap (λ p. status_at p (without_last lane)) at ∙ left_none lane last end))
+        | inr ne ↦ let apart : base + j + 1 ≢ lane.first + length lane.parts = omega arith in
+            get_or-set_other leaves (last - base) j nothing nothing ne
+            ∙ k.leaf j (omega (arith, lt, length-set leaves (last - base) nothing))
+            ∙ ap (summary_of (base + j)) (sym (left_status lane (base + j) apart some))
+      ];
+      base_first = k.base_first;
+      room = omega (arith, k.room, many, length-set leaves (last - base) nothing);
+      none_settled = λ at le q. elim (cases_eq at last) [
+        | inl same ↦ let is : ◌≡◌ {A = Option Status} None (Some Settled) = sym (left_none lane last end) ∙ ap (λ p. status_at p (without_last lane)) (sym same) ∙ q in absurd (cc)
+        | inr ne ↦ let apart : at + 1 ≢ lane.first + length lane.parts = omega arith in k.none_settled at le (sym (left_status lane at apart some) ∙ q)
+      ];
+      last_settled = λ at is le.
+          let old = k.last_settled at is le in
+          elim (cases_eq at last) [
+            | inl same ↦ let both : Some Waits ≡ Some Settled = sym e ∙ ap (λ p. status_at p lane) (sym same) ∙ old in absurd (cc)
+            | inr ne ↦ let apart : at + 1 ≢ lane.first + length lane.parts = omega arith in left_status lane at apart some ∙ old
+          ];
+      settled_within = elim (cases_eq settled_end (last + 1)) [
+        | inl same ↦ let both : Some Waits ≡ Some Settled = sym e ∙ k.last_settled last (sym same) w.0 in absurd (cc)
+        | inr ne ↦ omega (arith, k.settled_within, many, end)
+      ];
+      on_link = λ at other q. elim (cases_eq at last) [
+        | inl same ↦ let is : ◌≡◌ {A = Option Status} None (Some (Asked other)) = sym (left_none lane last end) ∙ ap (λ p. status_at p (without_last lane)) (sym same) ∙ q in absurd (cc)
+        | inr ne ↦ let apart : at + 1 ≢ lane.first + length lane.parts = omega arith in k.on_link at other (sym (left_status lane at apart some) ∙ q)
+      ];
+      fits = omega (arith, k.fits, many);
+    }
+
+pub kept_left_as_written : (lane : Lane) (base settled_end on last : ℕ) (leaves written : List Summary) (parts : List LanePart) → IsKept lane base leaves settled_end on → last ≡ length lane.parts - 1 → status_at (lane.first + (length lane.parts - 1)) lane ≡ Some Waits
+    → parts ≡ take last lane.parts → written ≡ set leaves (lane.first + last - base) nothing → IsKept (record { first = lane.first; parts = parts }) base written settled_end on
+kept_left_as_written lane base settled_end on last leaves written parts k is waits takes writes =
+    let w = within (lane.first + (length lane.parts - 1)) lane Waits waits in
+    let kept = kept_left lane base settled_end on (lane.first + (length lane.parts - 1)) leaves k (omega (arith, w.0, w.1)) waits in
+    subst (λ ps. IsKept (record { first = lane.first; parts = ps }) base written settled_end on) (sym (takes ∙ ap (λ n. take n lane.parts) is))
+    (subst (λ ls. IsKept (without_last lane) base ls settled_end on) (sym (writes ∙ ap (λ n. set leaves (lane.first + n - base) nothing) is)) kept)
 
 -- as the code writes it
 pub kept_as_written : (lane : Lane) (base settled_end on place : ℕ) (s : Status) (leaves written : List Summary) (parts : List LanePart) (summary : Summary)

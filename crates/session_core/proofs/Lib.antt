@@ -15,9 +15,13 @@ pub mod Outcomes
 pub mod Puts
 mod Examples
 pub mod PlaceLists
+pub mod Places
 pub mod SummaryTrees
 pub mod LanePlaces
 pub mod LaneKeeping
-pub mod CallerPlaces
-pub mod CallerGate
+pub mod LaneMaps
+pub mod OrderTies
+pub mod OrderAsks
+pub mod OrderGate
+pub mod OrderJoins
 pub mod ReplyPlaces

@@ -1,6 +1,7 @@
 pub mod Ready
 pub mod Heard
-pub mod GateKept
+pub mod Lane
 pub mod Kept
 pub mod OwedFrom
 pub mod Summaries
+pub mod Tied

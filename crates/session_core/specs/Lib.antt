@@ -7,6 +7,6 @@ pub mod Inner
 pub mod Part
 pub mod State
 pub mod History
-pub mod Lane
-pub mod Caller
+pub mod Places
+pub mod Order
 pub mod Replies

@@ -5,68 +5,47 @@
 //! So the first part is *overtaken*, and is never asked again.
 
 ghost use Rattle.std.specs.Prelude.{◌≡◌, ◌+◌, ◌-◌, ◌<◌, ◌≤◌, ◌==◌, ◌^◌, true, false, ℕ, List, Option, Some, IfOk, OnOk, OnErr, IfSome, IfNone, length, set, slice_get};
-ghost use Rattle.session_core.specs.declared.lane.Status.{Status};
-ghost use Rattle.session_core.specs.declared.lane.Status.TheVariants.{Waits, Asked, Settled, Unsent};
-ghost use Rattle.session_core.specs.Lane.{no_parts, part_in, status_at, is_done, MayAsk, IsOvertaken, IsOnItsWay, Offers, OnLink, marked, with_status, joined, forgotten};
+ghost use Rattle.session_core.specs.declared.ordered_part.Status.{Status};
+ghost use Rattle.session_core.specs.declared.ordered_part.Status.TheVariants.{Waits, Asked, Settled, Unsent};
+ghost use Rattle.session_core.specs.Order.{is_done, OnLink};
+ghost use Rattle.session_core.specs.Inner.Lane.{no_parts, part_in, status_at, MayAsk, IsOvertaken, IsOnItsWay, Offers, marked, with_status, joined, forgotten, without_last};
 ghost use Rattle.session_core.specs.Inner.Kept.{MayBecome};
 ghost use Rattle.session_core.specs.Inner.Summaries.{summary_of, IsTreeOf};
 
+use crate::ordered_part::Status;
 use crate::summary_tree::{NO_PLACE, Summary, SummaryTree};
 use std::alloc::{AllocError, Global};
 use std::collections::VecDeque;
 use std::marker::Model;
 
-/// Which part of which call stands at a place of a lane.
-#[derive(Debug, Clone, Copy)]
-pub struct Seat {
-    /// The number of the call.
-    pub call: u64,
-    /// The number of the part within its call.
-    pub part: usize,
-}
-
-/// How far a part of a lane is.
-#[derive(Debug, Clone, Copy)]
-pub enum Status {
-    /// It may be asked as soon as the order allows it, the first time or again.
-    Waits,
-    /// It is on its way on the link of this number.
-    Asked(usize),
-    /// It ran or may have run. It was answered by anything but a refusal before running, or its link
-    /// ended after a byte of it was written.
-    Settled,
-    /// It did not run, and will not: it was overtaken or given up, or has no tries or no time left.
-    Unsent,
-}
-
 /// A part of a lane.
 #[derive(Debug, Clone, Copy)]
-pub struct LanePart {
-    /// Which part it is. This never changes.
-    pub seat: Seat,
+pub(crate) struct LanePart {
+    /// Its place among all parts of the caller. This never changes.
+    pub(crate) number: u64,
     /// How far it is.
-    pub status: Status,
+    pub(crate) status: Status,
 }
 
 /// The part of a lane that may be asked now.
 #[derive(Debug, Clone, Copy)]
-pub struct Askable {
+pub(crate) struct LaneAskable {
     /// Its place in the lane.
-    pub place: u64,
-    /// Which part it is.
-    pub seat: Seat,
+    pub(crate) place: u64,
+    /// Its place among all parts of the caller.
+    pub(crate) number: u64,
     /// The only link that it may be asked on, since earlier parts are on their way there. If none is
     /// on its way, it may be asked on any link.
-    pub link: Option<usize>,
+    pub(crate) link: Option<usize>,
 }
 
 /// A part of a lane that is never asked again, since a later part is settled.
 #[derive(Debug, Clone, Copy)]
-pub struct Overtaken {
+pub(crate) struct LaneOvertaken {
     /// Its place in the lane.
-    pub place: u64,
-    /// Which part it is.
-    pub seat: Seat,
+    pub(crate) place: u64,
+    /// Its place among all parts of the caller.
+    pub(crate) number: u64,
 }
 
 /// The parts of one caller on one slot, in the order of its calls.
@@ -79,7 +58,7 @@ pub struct Overtaken {
 /// `askable`, `overtaken` and `status` take constant time. The other calls take a time that grows with
 /// the logarithm of the number of parts, averaged over the calls.
 #[derive(Drop)]
-pub struct Lane {
+pub(crate) struct Lane {
     first: u64,
     parts: VecDeque<LanePart>,
     /// What is open at each place, from the place `base` on.
@@ -92,7 +71,7 @@ pub struct Lane {
 }
 
 impl Model for Lane {
-    ghost use Rattle.session_core.specs.Lane as lane;
+    ghost use Rattle.session_core.specs.Inner.Lane as lane;
     ghost use Rattle.session_core.specs.Inner.Kept.{IsKept};
 
     ghost Value = { lane.Lane };
@@ -102,18 +81,9 @@ impl Model for Lane {
     ghost invariant = { λ s. IsKept (record { first = s.first; parts = s.parts.items }) s.base s.tree s.settled_end s.link };
 }
 
-impl Status {
-    /// Whether nothing more happens to the part.
-    pub fn is_done(&self) -> bool
-        ensures { result ≡ is_done self.now }
-    {
-        matches!(self, Status::Settled | Status::Unsent)
-    }
-}
-
 impl Lane {
     /// A lane without parts.
-    pub fn new(alloc: Global) -> Lane
+    pub(crate) fn new(alloc: Global) -> Lane
         ensures { result ≡ no_parts }
     {
         Lane {
@@ -126,15 +96,8 @@ impl Lane {
         }
     }
 
-    /// How many parts are left. Forgotten ones do not count.
-    pub fn len(&self) -> usize
-        ensures { result ≡ length self.now.parts }
-    {
-        self.parts.len()
-    }
-
     /// Whether no part is left.
-    pub fn is_empty(&self) -> bool
+    pub(crate) fn is_empty(&self) -> bool
         ensures { result ≡ (length self.now.parts == 0) }
     {
         self.parts.is_empty()
@@ -145,9 +108,9 @@ impl Lane {
     /// # Errors
     ///
     /// If memory runs out, or 2^64 - 1 parts joined. Nothing changes then.
-    pub fn join(&mut self, alloc: Global, seat: Seat) -> Result<u64, AllocError>
+    pub(crate) fn join(&mut self, alloc: Global, number: u64) -> Result<u64, AllocError>
         ensures place { IfOk result (λ place. place ≡ self.old.first + length self.old.parts) }
-        ensures joined { OnOk result (self.new ≡ joined seat self.old) }
+        ensures joined { OnOk result (self.new ≡ joined number self.old) }
         ensures err { OnErr result (self.new ≡ self.old) }
     {
         let place = self.first + self.parts.len() as u64;
@@ -159,34 +122,21 @@ impl Lane {
             self.base = self.first;
         }
         let status = Status::Waits;
-        self.parts.push_back(LanePart { seat, status })?;
+        self.parts.push_back(LanePart { number, status })?;
         self.tree
             .set((place - self.base) as usize, summary_at(place, status));
         Ok(place)
-    }
-
-    /// The status of the part at a place, if the lane has that part.
-    pub fn status(&self, place: u64) -> Option<Status>
-        ensures { result ≡ status_at place self.now }
-    {
-        if place < self.first {
-            return None;
-        }
-        match self.parts.get((place - self.first) as usize) {
-            Some(part) => Some(part.status),
-            None => None,
-        }
     }
 
     /// The part that may be asked now. There is one at most.
     ///
     /// With `SET a 1` and `SET a 2`, the first may be asked on any link. When that is on its way on
     /// link 7, the second may be asked on link 7 only.
-    pub fn askable(&self) -> Option<Askable>
+    pub(crate) fn askable(&self) -> Option<LaneAskable>
         ensures may { (place link : ℕ) → Offers result place link → MayAsk place link self.now }
         ensures asks { (place link : ℕ) → MayAsk place link self.now → Offers result place link }
-        ensures seat { IfSome result (λ askable.
-            part_in askable.place self.now ≡ Some (record { seat = askable.seat; status = Waits })) }
+        ensures number { IfSome result (λ askable.
+            part_in askable.place self.now ≡ Some (record { number = askable.number; status = Waits })) }
     {
         let open = self.tree.root();
         let place = open.first_waiting;
@@ -198,17 +148,21 @@ impl Lane {
         } else {
             Some(self.link)
         };
-        let seat = self.parts[(place - self.first) as usize].seat;
-        Some(Askable { place, seat, link })
+        let number = self.parts[(place - self.first) as usize].number;
+        Some(LaneAskable {
+            place,
+            number,
+            link,
+        })
     }
 
     /// The first part that is overtaken: it waits, and a later part is settled.
     ///
-    /// Such a part is never asked again. Call `note_unsent` for it.
-    pub fn overtaken(&self) -> Option<Overtaken>
+    /// Such a part is never asked again.
+    pub(crate) fn overtaken(&self) -> Option<LaneOvertaken>
         ensures overtaken { IfSome result (λ overtaken. IsOvertaken overtaken.place self.now) }
-        ensures seat { IfSome result (λ overtaken.
-            part_in overtaken.place self.now ≡ Some (record { seat = overtaken.seat; status = Waits })) }
+        ensures number { IfSome result (λ overtaken.
+            part_in overtaken.place self.now ≡ Some (record { number = overtaken.number; status = Waits })) }
         ensures first { IfSome result (λ overtaken.
             (place : ℕ) → IsOvertaken place self.now → overtaken.place ≤ place) }
         ensures none { IfNone result ((place : ℕ) → IsOvertaken place self.now → ⊥) }
@@ -217,62 +171,12 @@ impl Lane {
         if self.settled_end <= place {
             return None;
         }
-        let seat = self.parts[(place - self.first) as usize].seat;
-        Some(Overtaken { place, seat })
-    }
-
-    /// Notes that a part was asked on a link. `askable` says which part may be asked.
-    pub fn note_asked(&mut self, place: u64, link: usize)
-        requires { MayAsk place link self.old }
-        ensures { self.new ≡ with_status place (Asked link) self.old }
-    {
-        self.change(place, Status::Asked(link));
-    }
-
-    /// Notes that a part on its way did not run, and waits again.
-    ///
-    /// Its node refused to run it, or its link ended before a byte of it was written.
-    pub fn note_refused(&mut self, place: u64)
-        requires { IsOnItsWay place self.old }
-        ensures { self.new ≡ with_status place Waits self.old }
-    {
-        self.change(place, Status::Waits);
-    }
-
-    /// Notes that a part on its way ran, or may have run.
-    pub fn note_settled(&mut self, place: u64)
-        requires { IsOnItsWay place self.old }
-        ensures { self.new ≡ with_status place Settled self.old }
-    {
-        self.change(place, Status::Settled);
-    }
-
-    /// Notes that a part that waits will not be asked any more, and did not run.
-    pub fn note_unsent(&mut self, place: u64)
-        requires { status_at place self.old ≡ Some Waits }
-        ensures { self.new ≡ with_status place Unsent self.old }
-    {
-        self.change(place, Status::Unsent);
-    }
-
-    /// Forgets the done parts at the front, and returns how many these are.
-    ///
-    /// The first part that is left, if any, is not done. Places stay.
-    pub fn forget_done(&mut self) -> usize
-        ensures forgotten { self.new ≡ forgotten result self.old }
-        ensures within { result ≤ length self.old.parts }
-        ensures done { (place : ℕ) (status : Status)
-            → place < self.new.first → status_at place self.old ≡ Some status → is_done status ≡ true }
-        ensures rest { (status : Status)
-            → status_at self.new.first self.new ≡ Some status → is_done status ≡ false }
-    {
-        let before = self.len();
-        while self.forget_first() {}
-        before - self.len()
+        let number = self.parts[(place - self.first) as usize].number;
+        Some(LaneOvertaken { place, number })
     }
 
     /// Gives the part at a place this status.
-    fn change(&mut self, place: u64, status: Status)
+    pub(crate) fn change(&mut self, place: u64, status: Status)
         requires { MayBecome place status self.old }
         ensures { self.new ≡ with_status place status self.old }
     {
@@ -286,8 +190,21 @@ impl Lane {
         }
     }
 
+    /// Takes back the last part, which waits.
+    pub(crate) fn leave_last(&mut self)
+        requires some { 0 < length self.old.parts }
+        requires waits { status_at (self.old.first + (length self.old.parts - 1)) self.old ≡ Some Waits }
+        ensures { self.new ≡ without_last self.old }
+    {
+        let last = self.parts.len() - 1;
+        let place = self.first + last as u64;
+        self.parts.truncate(last);
+        self.tree
+            .set((place - self.base) as usize, Summary::NOTHING);
+    }
+
     /// Forgets the first part if it is done, and says whether it did.
-    fn forget_first(&mut self) -> bool
+    pub(crate) fn forget_first(&mut self) -> bool
         ensures forgot { result ≡ true → (status : Status)
             × (status_at self.old.first self.old ≡ Some status) × (is_done status ≡ true)
             × (self.new ≡ forgotten 1 self.old) }
@@ -330,8 +247,8 @@ fn mark(parts: &mut VecDeque<LanePart>, index: usize, status: Status)
     requires { index < length parts.old.items }
     ensures { parts.new.items ≡ marked index status parts.old.items }
 {
-    let seat = parts[index].seat;
-    parts[index] = LanePart { seat, status };
+    let number = parts[index].number;
+    parts[index] = LanePart { number, status };
 }
 
 /// A tree over these parts, the first of which has the place `first`, and over as many more places.

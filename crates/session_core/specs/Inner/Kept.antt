@@ -1,9 +1,9 @@
 -- What a lane keeps beside its parts, so that no call walks over them.
 use Rattle.std.specs.Prelude.{◌≡◌, ◌+◌, ◌^◌, ◌<◌, ◌≤◌, ℕ, List, length, Some}
-use Rattle.session_core.specs.declared.lane.Status.{Status}
-use Rattle.session_core.specs.declared.lane.Status.TheVariants.{Waits, Asked, Settled, Unsent}
+use Rattle.session_core.specs.declared.ordered_part.Status.{Status}
+use Rattle.session_core.specs.declared.ordered_part.Status.TheVariants.{Waits, Asked, Settled, Unsent}
 use Rattle.session_core.specs.declared.summary_tree.Summary.{Summary}
-use Rattle.session_core.specs.Lane.{Lane, status_at, MayAsk, IsOnItsWay}
+use Rattle.session_core.specs.Inner.Lane.{Lane, status_at, MayAsk, IsOnItsWay}
 use Rattle.session_core.specs.Inner.Summaries.{node, summary_of}
 
 pub record IsKept (lane : Lane) (base : ℕ) (leaves : List Summary) (settled_end link : ℕ) : Type 0 where

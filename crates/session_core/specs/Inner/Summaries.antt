@@ -4,8 +4,8 @@ use Rattle.std.specs.Prelude.{◌≡◌, ◌+◌, ◌*◌, ◌-◌, ◌^◌, ◌
 use Rattle.std.proofs.Common.{get_or}
 use Rattle.std.specs.Option.{option_map}
 use Rattle.session_core.specs.declared.lane.LanePart.{LanePart}
-use Rattle.session_core.specs.declared.lane.Status.{Status}
-use Rattle.session_core.specs.declared.lane.Status.TheVariants.{Waits, Asked, Settled, Unsent}
+use Rattle.session_core.specs.declared.ordered_part.Status.{Status}
+use Rattle.session_core.specs.declared.ordered_part.Status.TheVariants.{Waits, Asked, Settled, Unsent}
 use Rattle.session_core.specs.declared.summary_tree.Summary.{Summary}
 
 -- no part waits, and none is on its way

@@ -1,7 +1,8 @@
 use Rattle.std.proofs.Common.{◌≡◌, ◌<◌, ◌^◌, ◌-◌, ◌⊎◌, inl, inr, ℕ, Option, None, Some, sym, subst, ◌∙◌, arith}
 use Rattle.session_core.specs.declared.lane.LanePart.{LanePart}
-use Rattle.session_core.specs.declared.lane.Status.TheVariants.{Waits}
-use Rattle.session_core.specs.Lane.{MayAsk, OnLink, part_in}
+use Rattle.session_core.specs.declared.ordered_part.Status.TheVariants.{Waits}
+use Rattle.session_core.specs.Order.{OnLink}
+use Rattle.session_core.specs.Inner.Lane.{MayAsk, part_in}
 use Rattle.session_core.proofs.LanePlaces.{within, part_read}
 use Rattle.session_core.proofs.LaneKeeping.{tells, may_first, allowed}
 use Rattle.session_core.proofs.lane.Lane.askable.Goals as goal
@@ -75,12 +76,12 @@ returns-clause-asks c = λ place link may.
     ] in
     (a.is_first, way_back c.root-open.result.on_way_end s.link link c.if-open-eq0.link a.same_link only)
 
-pub returns-clause-seat : goal.returns-clause-seat
-returns-clause-seat c =
+pub returns-clause-number : goal.returns-clause-number
+returns-clause-number c =
     let s = c.self.inside in
     let k = c.self.invariant in
     let t = tells (record { first = s.first; parts = s.parts.items }) s.base s.settled_end s.link s.tree c.root-open.result k c.root-open.ensures in
     let is : c.root-open.result.first_waiting < 2 ^ 64 - 1 = omega (arith, c.if-place.false, t.bound) in
     let seen : LanePart = c.index.result.now in
-    subst (λ lane. part_in c.root-open.result.first_waiting lane ≡ Some (record { seat = seen.seat; status = Waits })) c.self.view_is
+    subst (λ lane. part_in c.root-open.result.first_waiting lane ≡ Some (record { number = seen.number; status = Waits })) c.self.view_is
     (part_read c.root-open.result.first_waiting (record { first = s.first; parts = s.parts.items }) Waits seen (t.waits is) c.index.ensures)

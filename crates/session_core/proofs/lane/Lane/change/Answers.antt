@@ -1,5 +1,5 @@
 use Rattle.std.proofs.Common.{inl, inr, sym, subst, arith}
-use Rattle.session_core.specs.declared.lane.Status.TheVariants.{Asked, Settled}
+use Rattle.session_core.specs.declared.ordered_part.Status.TheVariants.{Asked, Settled}
 use Rattle.session_core.specs.Inner.Kept.{MayBecome}
 use Rattle.session_core.proofs.LaneKeeping.{writable, kept_as_written, became_asked, became_settled, became_waits, became_unsent, Became}
 use Rattle.session_core.proofs.lane.Lane.change.Goals as goal

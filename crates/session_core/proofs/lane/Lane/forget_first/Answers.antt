@@ -1,7 +1,8 @@
 use borrow.Author.Tests.{ltb-true}
 use Rattle.std.proofs.Common.{◌≡◌, ◌<◌, ◌+◌, length, Some, sym, subst, ap, ◌∙◌, arith}
 use Rattle.std.proofs.lemmas.Option.{same_Some}
-use Rattle.session_core.specs.Lane.{Lane, status_at, is_done, forgotten}
+use Rattle.session_core.specs.Order.{is_done}
+use Rattle.session_core.specs.Inner.Lane.{Lane, status_at, forgotten}
 use Rattle.session_core.specs.Inner.Kept.{IsKept}
 use Rattle.session_core.proofs.LanePlaces.{within, first_read}
 use Rattle.session_core.proofs.LaneKeeping.{kept_forgot}

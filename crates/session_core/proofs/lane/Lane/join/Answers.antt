@@ -43,5 +43,5 @@ invariant_of-self-2 c =
       })
     ] in
     let t = c.if-place-self.self-inside in
-    joined_as_written (record { first = t.first; parts = t.parts.items }) t.base t.settled_end t.link (c.self.inside.first + c.len.result) c.args.seat t.tree c.set.new.self c.push_back.new.self.items c.summary_at.result
+    joined_as_written (record { first = t.first; parts = t.parts.items }) t.base t.settled_end t.link (c.self.inside.first + c.len.result) c.args.number t.tree c.set.new.self c.push_back.new.self.items c.summary_at.result
     ready.kept ready.is_end ready.room (omega (arith, c.if-place.false, c.self.invariant.fits, c.len.ensures)) c.in_ok-push_back.ensures.items c.summary_at.ensures c.set.ensures

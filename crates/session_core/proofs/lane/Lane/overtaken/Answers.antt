@@ -1,7 +1,7 @@
 use Rattle.std.proofs.Common.{◌≡◌, ◌<◌, ◌^◌, ◌-◌, Some, sym, subst, arith}
 use Rattle.session_core.specs.declared.lane.LanePart.{LanePart}
-use Rattle.session_core.specs.declared.lane.Status.TheVariants.{Waits}
-use Rattle.session_core.specs.Lane.{IsOvertaken, part_in}
+use Rattle.session_core.specs.declared.ordered_part.Status.TheVariants.{Waits}
+use Rattle.session_core.specs.Inner.Lane.{IsOvertaken, part_in}
 use Rattle.session_core.proofs.LanePlaces.{within, part_read}
 use Rattle.session_core.proofs.LaneKeeping.{tells, overtaken_first, overtaken_below}
 use Rattle.session_core.proofs.lane.Lane.overtaken.Goals as goal
@@ -39,15 +39,15 @@ returns-clause-overtaken c =
     subst (IsOvertaken c.root-place.result.first_waiting) c.self.view_is
     (overtaken_first (record { first = s.first; parts = s.parts.items }) s.base s.settled_end s.link c.root-place.result.first_waiting c.root-place.result.on_way_end s.tree k t c.if-self-place.false)
 
-pub returns-clause-seat : goal.returns-clause-seat
-returns-clause-seat c =
+pub returns-clause-number : goal.returns-clause-number
+returns-clause-number c =
     let s = c.self.inside in
     let k = c.self.invariant in
     let t = tells (record { first = s.first; parts = s.parts.items }) s.base s.settled_end s.link s.tree c.root-place.result k c.root-place.ensures in
     let is : c.root-place.result.first_waiting < 2 ^ 64 - 1 = omega (arith, c.if-self-place.false, k.settled_within, k.fits) in
     let seen : LanePart = c.index.result.now in
     let h = c.index.ensures in
-    subst (λ lane. part_in c.root-place.result.first_waiting lane ≡ Some (record { seat = seen.seat; status = Waits })) c.self.view_is
+    subst (λ lane. part_in c.root-place.result.first_waiting lane ≡ Some (record { number = seen.number; status = Waits })) c.self.view_is
     (part_read c.root-place.result.first_waiting (record { first = s.first; parts = s.parts.items }) Waits seen (t.waits is) h)
 
 pub returns-clause-first : goal.returns-clause-first

@@ -1,8 +1,0 @@
-use Rattle.std.proofs.Common.{◌≡◌, ◌<◌, ◌≤◌, ◌+◌, ℕ, Some}
-use Rattle.std.specs.List.{slice_get}
-use Rattle.session_core.specs.declared.caller.CallerCall.{CallerCall}
-use Rattle.session_core.specs.Inner.GateKept.{IsOver}
-use Rattle.session_core.proofs.caller.first_undone.Given as goal
-
-abbrev pub invariant-loop-index : goal.invariant-loop-index
-invariant-loop-index l = (i : ℕ) (call : CallerCall) → l.from ≤ l.first + i → i < l.index → slice_get l.calls.items i ≡ Some call → IsOver call

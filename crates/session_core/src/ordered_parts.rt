@@ -1,0 +1,202 @@
+//! The parts of one caller, in the order of its calls and in the lanes of their slots.
+
+ghost use Rattle.std.specs.Prelude.{◌≡◌, ◌+◌, ◌-◌, ◌<◌, ◌≤◌, ◌^◌, ◌++◌, true, false, ℕ, List, [], ◌∷◌, Option, None, Some, OnOk, OnErr, IfSome, IfNone, length};
+ghost use Rattle.session_core.specs.declared.ordered_part.OrderedPart.{OrderedPart};
+ghost use Rattle.session_core.specs.declared.ordered_part.Status.{Status};
+ghost use Rattle.session_core.specs.declared.ordered_part.Status.TheVariants.{Waits};
+ghost use Rattle.session_core.specs.declared.part.PartOrder.TheVariants.{OfSlot, Free};
+ghost use Rattle.session_core.specs.Part.{have_slot};
+ghost use Rattle.session_core.specs.Order.{no_order, ordered_at, MayAskAmong, IsOf, Offers, NamesWaiting, IsOvertaken, marked, with_status};
+ghost use Rattle.session_core.specs.Inner.Tied.{IsSorted, MayChange, without_first, without_last, pushed, MayFollow, IsFirstOver, IsLastOpen};
+
+use crate::lanes;
+use crate::lanes::Lanes;
+use crate::ordered_part::{Askable, OrderedPart, Overtaken, Seat, Status};
+use crate::part::PartOrder;
+use std::alloc::{AllocError, Global};
+use std::collections::{BTreeMap, VecDeque};
+use std::marker::Model;
+
+/// The parts of one caller in the order of its calls. A part of a slot also stands in the lane of the
+/// slot.
+#[derive(Drop)]
+pub(crate) struct OrderedParts {
+    first: u64,
+    parts: VecDeque<OrderedPart>,
+    /// Where each part stands in its lane. A part without a slot has 0.
+    spots: VecDeque<u64>,
+    lanes: Lanes,
+}
+
+impl Model for OrderedParts {
+    ghost use Rattle.session_core.specs.Order.{Order};
+    ghost use Rattle.session_core.specs.Inner.Tied.{IsTied};
+
+    ghost Value = { Order };
+
+    ghost view = { λ s. record { first = s.first; parts = s.parts.items } };
+
+    ghost invariant = { λ s. IsTied (record { first = s.first; parts = s.parts.items }) s.spots.items s.lanes };
+}
+
+impl OrderedParts {
+    pub(crate) fn new(alloc: Global) -> OrderedParts
+        ensures { result ≡ no_order }
+    {
+        OrderedParts {
+            first: 0,
+            parts: VecDeque::new(alloc),
+            spots: VecDeque::new(alloc),
+            lanes: BTreeMap::new(alloc),
+        }
+    }
+
+    /// The place of the first part that is left, or of the next one.
+    pub(crate) fn first(&self) -> u64
+        ensures first { result ≡ self.now.first }
+        ensures sorted { IsSorted self.now }
+    {
+        self.first
+    }
+
+    /// The place of the part that joins next.
+    pub(crate) fn end(&self) -> u64
+        ensures end { result ≡ self.now.first + length self.now.parts }
+        ensures sorted { IsSorted self.now }
+    {
+        self.first + self.parts.len() as u64
+    }
+
+    /// The part at a place, if it joined and was not forgotten.
+    pub(crate) fn part(&self, place: u64) -> Option<OrderedPart>
+        ensures part { result ≡ ordered_at place self.now }
+        ensures sorted { IsSorted self.now }
+    {
+        if place < self.first {
+            return None;
+        }
+        match self.parts.get((place - self.first) as usize) {
+            Some(part) => Some(*part),
+            None => None,
+        }
+    }
+
+    /// Adds a part at the end, which waits.
+    ///
+    /// # Errors
+    ///
+    /// If memory runs out, or 2^64 - 1 parts joined. Nothing changes then.
+    pub(crate) fn push(
+        &mut self,
+        alloc: Global,
+        seat: Seat,
+        order: PartOrder,
+    ) -> Result<(), AllocError>
+        requires { MayFollow seat.call order self.old }
+        ensures pushed { OnOk result (self.new ≡ pushed seat order self.old) }
+        ensures err { OnErr result (self.new ≡ self.old) }
+    {
+        let place = self.end();
+        if place == u64::MAX {
+            return Err(AllocError);
+        }
+        self.parts.reserve(1)?;
+        self.spots.reserve(1)?;
+        let spot = lanes::join(alloc, &mut self.lanes, order, place)?;
+        let status = Status::Waits;
+        self.parts.push_back_reserved(OrderedPart {
+            seat,
+            order,
+            status,
+        });
+        self.spots.push_back_reserved(spot);
+        Ok(())
+    }
+
+    /// Takes back the last part, which waits.
+    pub(crate) fn leave_last(&mut self)
+        requires { IsLastOpen self.old }
+        ensures { self.new ≡ without_last self.old }
+    {
+        let last = self.parts.len() - 1;
+        let order = self.parts[last].order;
+        lanes::leave_last(&mut self.lanes, order);
+        self.parts.truncate(last);
+        self.spots.truncate(last);
+    }
+
+    /// Gives the part at a place this status.
+    pub(crate) fn change(&mut self, place: u64, status: Status)
+        requires { MayChange place status self.old }
+        ensures changed { self.new ≡ with_status place status self.old }
+        ensures sorted { IsSorted self.old }
+    {
+        let index = (place - self.first) as usize;
+        let order = self.parts[index].order;
+        let spot = self.spots[index];
+        lanes::change(&mut self.lanes, order, spot, status);
+        mark(&mut self.parts, index, status);
+    }
+
+    /// Forgets the first part, which is done.
+    pub(crate) fn forget_first(&mut self)
+        requires { IsFirstOver self.old }
+        ensures { self.new ≡ without_first self.old }
+    {
+        let order = self.parts[0].order;
+        lanes::forget_first(&mut self.lanes, order);
+        self.parts.pop_front();
+        self.spots.pop_front();
+        self.first += 1;
+    }
+
+    /// The part of a slot that may be asked now, by its order with the others of the slot.
+    pub(crate) fn askable(&self, slot: u16) -> Option<Askable>
+        ensures may { (place link : ℕ) → Offers result place link
+            → MayAskAmong have_slot place link self.now × IsOf slot place self.now }
+        ensures asks { (place link : ℕ) → MayAskAmong have_slot place link self.now
+            → IsOf slot place self.now → Offers result place link }
+        ensures seat { IfSome result (λ askable. NamesWaiting askable.place askable.seat self.now) }
+        ensures sorted { IsSorted self.now }
+    {
+        let Some(next) = lanes::askable(&self.lanes, slot) else {
+            return None;
+        };
+        let seat = self.parts[(next.number - self.first) as usize].seat;
+        Some(Askable {
+            place: next.number,
+            seat,
+            link: next.link,
+        })
+    }
+
+    /// The first part of a slot that is overtaken.
+    pub(crate) fn overtaken(&self, slot: u16) -> Option<Overtaken>
+        ensures overtaken { IfSome result (λ overtaken.
+            IsOvertaken overtaken.place self.now × IsOf slot overtaken.place self.now) }
+        ensures seat { IfSome result (λ overtaken. NamesWaiting overtaken.place overtaken.seat self.now) }
+        ensures none { IfNone result ((place : ℕ) → IsOvertaken place self.now → IsOf slot place self.now → ⊥) }
+    {
+        let Some(first) = lanes::overtaken(&self.lanes, slot) else {
+            return None;
+        };
+        let seat = self.parts[(first.number - self.first) as usize].seat;
+        Some(Overtaken {
+            place: first.number,
+            seat,
+        })
+    }
+}
+
+/// Gives the part of an index this status.
+fn mark(parts: &mut VecDeque<OrderedPart>, index: usize, status: Status)
+    requires { index < length parts.old.items }
+    ensures { parts.new.items ≡ marked index status parts.old.items }
+{
+    let OrderedPart { seat, order, .. } = parts[index];
+    parts[index] = OrderedPart {
+        seat,
+        order,
+        status,
+    };
+}
