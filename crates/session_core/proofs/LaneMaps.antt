@@ -1,5 +1,5 @@
 -- What the lanes have after one of them took a step.
-use Rattle.std.proofs.Common.{true, false, cond, Bool, List, Result, Ok, Err, IfSome, IfNone, OnOk, OnErr, inl, inr, ◌≡◌, ◌≢◌, ◌<◌, ◌+◌, ℕ, [], ◌∷◌, length, Option, None, Some, refl, sym, ap, ◌∙◌, subst, arith}
+use Rattle.std.proofs.Common.{true, false, Bool, List, Result, Ok, Err, IfSome, IfNone, OnOk, OnErr, inl, inr, ◌≡◌, ◌≢◌, ℕ, length, Option, None, Some, refl, sym, ap, ◌∙◌, subst, arith}
 use Rattle.std.specs.Option.{unwrap_or, IsSome}
 use Rattle.std.specs.Ordering.{nat_cmp}
 use Rattle.std.specs.Map.{lookup}

@@ -1,5 +1,5 @@
 -- Which part of a slot may be asked, by the lane of the slot and by the order of its caller.
-use Rattle.std.proofs.Common.{inl, inr, true, false, ◌≡◌, ◌≢◌, ◌<◌, ◌≤◌, ◌+◌, ◌-◌, ◌⊎◌, ℕ, List, [], length, get_or, Option, None, Some, IfSome, IfNone, refl, sym, ap, ◌∙◌, subst, arith}
+use Rattle.std.proofs.Common.{inl, inr, true, false, ◌≡◌, ◌<◌, ◌≤◌, ◌+◌, ◌-◌, ◌⊎◌, ℕ, List, [], length, get_or, Option, None, Some, refl, sym, ap, ◌∙◌, subst, arith}
 use Rattle.std.specs.Option.{option_map, unwrap_or}
 use Rattle.std.specs.Map.{lookup}
 use Rattle.std.specs.Ordering.{nat_cmp}
@@ -13,12 +13,11 @@ use Rattle.session_core.specs.declared.ordered_part.Status.{Status}
 use Rattle.session_core.specs.declared.ordered_part.Status.TheVariants.{Waits, Asked, Settled, Unsent}
 use Rattle.session_core.specs.declared.lane.LanePart.{LanePart}
 use Rattle.session_core.specs.declared.lane.LaneAskable.{LaneAskable}
-use Rattle.session_core.specs.declared.lane.LaneOvertaken.{LaneOvertaken}
 use Rattle.session_core.specs.Inner.Lane as lane
 use Rattle.session_core.specs.Inner.Lane.{LetsPass, LetsBack, status_at}
 use Rattle.session_core.specs.Inner.Kept.{MayBecome}
 use Rattle.session_core.specs.Part.{have_slot}
-use Rattle.session_core.specs.Order.{Order, no_order, ordered_at, is_done, is_effective, LetsBy, MayAskAmong, IsOf, OnLink, Offers, NamesWaiting, IsWaiting, IsOnItsWay, IsOvertaken}
+use Rattle.session_core.specs.Order.{Order, no_order, ordered_at, is_done, is_effective, MayAskAmong, IsOf, Offers, NamesWaiting, IsOvertaken}
 use Rattle.session_core.specs.Inner.Tied.{lane_of, in_lane, IsSorted, IsTied, IsFirstDone, IsLastWaiting, spot, MayChange}
 use Rattle.session_core.proofs.LanePlaces.{status_of_part, part_is, within}
 use Rattle.session_core.proofs.LaneMaps.{in_lane_is}

@@ -1,5 +1,5 @@
 -- What a barrier lets go: the rule for all parts of a caller, by the rule within a slot.
-use Rattle.std.proofs.Common.{inl, inr, true, false, Bool, ◌≡◌, ◌≢◌, ◌<◌, ◌≤◌, ◌+◌, ◌-◌, ◌++◌, ◌⊎◌, ℕ, zero, suc, List, [], ◌∷◌, length, length-append, length-drop, nat_lt, IfSome, IfNone, drop, take, if◌then◌else◌, Option, None, Some, refl, sym, ap, ◌∙◌, subst, arith}
+use Rattle.std.proofs.Common.{inl, inr, true, false, Bool, ◌≡◌, ◌≢◌, ◌<◌, ◌≤◌, ◌+◌, ◌-◌, ◌⊎◌, ℕ, suc, List, [], ◌∷◌, length, length-drop, nat_lt, IfSome, IfNone, drop, if◌then◌else◌, Option, None, Some, refl, sym, ap, ◌∙◌, subst, arith}
 use Rattle.std.specs.List.{slice_get}
 use Rattle.std.proofs.lemmas.Option.{same_Some}
 use Rattle.std.proofs.lemmas.Bool.{cases_lt, cases_eq}
@@ -10,13 +10,13 @@ use Rattle.session_core.specs.declared.ordered_part.Seat.{Seat}
 use Rattle.session_core.specs.declared.ordered_part.Askable.{Askable}
 use Rattle.session_core.specs.declared.ordered_part.OrderedPart.{OrderedPart}
 use Rattle.session_core.specs.declared.ordered_part.Status.{Status}
-use Rattle.session_core.specs.declared.ordered_part.Status.TheVariants.{Waits, Asked, Settled, Unsent}
+use Rattle.session_core.specs.declared.ordered_part.Status.TheVariants.{Waits, Asked}
 use Rattle.session_core.specs.Part.{have_slot, have_order}
-use Rattle.session_core.specs.Order.{Order, no_order, ordered_at, is_done, is_effective, LetsBy, MayAskAmong, MayAsk, IsOf, Offers, NamesWaiting, IsWaiting, IsOnItsWay, with_status, trimmed, trimmed_from}
+use Rattle.session_core.specs.Order.{Order, no_order, ordered_at, is_done, is_effective, LetsBy, MayAskAmong, MayAsk, IsOf, Offers, NamesWaiting, IsOnItsWay, with_status, trimmed, trimmed_from}
 use Rattle.session_core.specs.Inner.Tied.{IsSorted, IsBar, IsFirstOver, IsAlone, IsGateKept}
-use Rattle.session_core.proofs.Places.{at_below, at_from, at_past, at_within, at_there, none_at, dropped_other, changed_same, changed_other, length-changed}
+use Rattle.session_core.proofs.Places.{at_from, at_within, at_there, none_at, dropped_other, changed_same, changed_other, length-changed}
 use Rattle.session_core.proofs.OrderTies.{slot_of_both}
-use Rattle.session_core.proofs.OrderAsks.{call_le, place_lt}
+use Rattle.session_core.proofs.OrderAsks.{call_le}
 
 -- ---- orders
 

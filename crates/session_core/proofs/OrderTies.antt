@@ -1,5 +1,5 @@
 -- The order of a caller and the lanes of its slots stay tied, whatever step they take together.
-use Rattle.std.proofs.Common.{inl, inr, true, false, Bool, ◌≡◌, ◌≢◌, ◌<◌, ◌≤◌, ◌+◌, ◌-◌, ◌^◌, ◌++◌, ◌⊎◌, ◌==◌, ℕ, zero, suc, List, [], ◌∷◌, length, length-append, length-drop, get_or, min, take, drop, Option, None, Some, refl, sym, ap, ◌∙◌, subst, arith}
+use Rattle.std.proofs.Common.{inl, inr, true, ◌≡◌, ◌≢◌, ◌<◌, ◌≤◌, ◌+◌, ◌-◌, ◌^◌, ◌++◌, ◌⊎◌, ℕ, List, [], ◌∷◌, length, length-append, length-drop, get_or, min, take, drop, Option, None, Some, refl, sym, ap, ◌∙◌, subst, arith}
 use Rattle.std.specs.Option.{option_map}
 use Rattle.std.specs.BTreeMap.{BTreeMap}
 use Rattle.std.proofs.Math.Seq.{get_or-append_seam}
@@ -20,7 +20,7 @@ use Rattle.session_core.specs.Inner.Lane as lane
 use Rattle.session_core.specs.Part.{have_slot}
 use Rattle.session_core.specs.Order.{Order, ordered_at, with_status}
 use Rattle.session_core.specs.Inner.Tied.{lane_of, lane_end, in_lane, Stepped, IsSorted, IsTied, spot, MayFollow, pushed, without_first, without_last}
-use Rattle.session_core.proofs.Places.{at_below, at_past, at_within, at_there, pushed_last, pushed_other, dropped_other, left_other, left_last, length-changed, changed_same, changed_other}
+use Rattle.session_core.proofs.Places.{at_below, at_within, at_there, pushed_last, pushed_other, dropped_other, left_other, left_last, length-changed, changed_same, changed_other}
 use Rattle.session_core.proofs.LaneMaps.{in_lane_is}
 
 -- ---- orders of slots

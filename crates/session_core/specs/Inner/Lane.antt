@@ -2,7 +2,7 @@
 use Rattle.std.specs.Prelude.{◌≡◌, ◌+◌, ◌-◌, ◌<◌, ◌++◌, ℕ, List, [], ◌∷◌, length, drop, take, Option, None, Some}
 use Rattle.std.specs.Option.{option_map}
 use Rattle.session_core.specs.Places.{item_at, changed}
-use Rattle.session_core.specs.Order.{is_done, OnLink}
+use Rattle.session_core.specs.Order.{OnLink}
 use Rattle.session_core.specs.declared.lane.LanePart.{LanePart}
 use Rattle.session_core.specs.declared.lane.LaneAskable.{LaneAskable}
 use Rattle.session_core.specs.declared.ordered_part.Status.{Status}

@@ -1,6 +1,5 @@
-use Rattle.std.proofs.Common.{◌≡◌, true, false, Some, refl, sym, ap, ◌∙◌, subst, Bool}
-use Rattle.session_core.specs.Order.{is_done}
-use Rattle.session_core.specs.Inner.Lane.{status_at, forgotten}
+use Rattle.std.proofs.Common.{refl}
+use Rattle.session_core.specs.Inner.Lane.{forgotten}
 use Rattle.session_core.proofs.LaneMaps.{stepped_lent, stepped_missing, forgot_is}
 use Rattle.session_core.proofs.lanes.forget_in_slot.Goals as goal
 

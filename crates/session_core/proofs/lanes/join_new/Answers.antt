@@ -1,6 +1,5 @@
 use Rattle.std.proofs.Common.{sym, ap, ◌∙◌}
-use Rattle.std.proofs.lemmas.Option.{same_Some}
-use Rattle.session_core.specs.Inner.Lane.{joined, no_parts}
+use Rattle.session_core.specs.Inner.Lane.{joined}
 use Rattle.session_core.proofs.LaneMaps.{stepped_by, lane_missing, same_entries}
 use Rattle.session_core.proofs.lanes.join_new.Goals as goal
 

@@ -1,4 +1,3 @@
-use Rattle.session_core.specs.Inner.Lane.{joined}
 use Rattle.session_core.proofs.LaneMaps.{stepped_joined, same_joined}
 use Rattle.session_core.proofs.lanes.join_slot.Goals as goal
 

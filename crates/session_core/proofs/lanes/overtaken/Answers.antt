@@ -1,7 +1,5 @@
-use Rattle.std.proofs.Common.{subst, sym}
 use Rattle.session_core.specs.declared.ordered_part.Status.TheVariants.{Waits}
-use Rattle.session_core.specs.Inner.Lane.{Lane, IsOvertaken}
-use Rattle.session_core.proofs.LaneMaps.{at_none, named, lane_there, none_overtaken}
+use Rattle.session_core.proofs.LaneMaps.{at_none, named, none_overtaken}
 use Rattle.session_core.proofs.lanes.overtaken.Goals as goal
 
 pub returns-in-Some-clause-number : goal.returns-in-Some-clause-number

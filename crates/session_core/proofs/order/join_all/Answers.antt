@@ -1,7 +1,7 @@
-use Rattle.std.proofs.Common.{◌≡◌, ◌+◌, ◌-◌, length, slice_index_or, take, Some, sym, subst, ap, ◌∙◌}
+use Rattle.std.proofs.Common.{◌-◌, length, slice_index_or, sym, subst, ap, ◌∙◌}
 use Rattle.std.proofs.lemmas.Option.{slice_get-get_or}
 use Rattle.session_core.specs.declared.part.PartOrder.TheVariants.{OfSlot}
-use Rattle.session_core.specs.Order.{Order, joined}
+use Rattle.session_core.specs.Order.{Order}
 use Rattle.session_core.specs.Inner.Tied.{MayFollow, AreLastOpen, pushed, first_parts}
 use Rattle.session_core.proofs.OrderJoins.{may_follow, joined_next, joined_open, joined_undone}
 use Rattle.session_core.proofs.order.join_all.Goals as goal

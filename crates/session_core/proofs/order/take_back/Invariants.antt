@@ -1,4 +1,4 @@
-use Rattle.std.proofs.Common.{◌≡◌, ◌≤◌, ◌-◌, ℕ, length}
+use Rattle.std.proofs.Common.{◌≡◌, ◌≤◌, ◌-◌, length}
 use Rattle.session_core.specs.Inner.Tied.{first_parts}
 use Rattle.session_core.proofs.order.take_back.Given as goal
 

@@ -1,4 +1,4 @@
-use Rattle.std.proofs.Common.{◌≡◌, length, drop, sym, ap, subst, ◌∙◌, ℕ, ◌<◌}
+use Rattle.std.proofs.Common.{length, sym, ap, subst, ◌∙◌, ◌<◌}
 use Rattle.session_core.specs.Order.{Order, trimmed}
 use Rattle.session_core.proofs.OrderGate.{trimmed_one, trimmed_none, trim_smaller}
 use Rattle.session_core.proofs.order.trim.Goals as goal

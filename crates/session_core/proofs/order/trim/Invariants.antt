@@ -1,4 +1,4 @@
-use Rattle.std.proofs.Common.{◌≡◌, ℕ, length}
+use Rattle.std.proofs.Common.{◌≡◌, length}
 use Rattle.session_core.specs.Order.{trimmed}
 use Rattle.session_core.proofs.order.trim.Given as goal
 

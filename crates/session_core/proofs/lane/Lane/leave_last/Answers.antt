@@ -1,7 +1,6 @@
-use Rattle.std.proofs.Common.{◌≡◌, ◌<◌, ◌≤◌, ◌+◌, ◌-◌, length, Some, sym, subst, ap, ◌∙◌, arith}
+use Rattle.std.proofs.Common.{◌≡◌, ◌+◌, ◌-◌, length, Some, sym, subst, arith}
 use Rattle.session_core.specs.declared.ordered_part.Status.TheVariants.{Waits}
-use Rattle.session_core.specs.Inner.Lane.{status_at, without_last}
-use Rattle.session_core.specs.Inner.Kept.{IsKept}
+use Rattle.session_core.specs.Inner.Lane.{status_at}
 use Rattle.session_core.proofs.LanePlaces.{within}
 use Rattle.session_core.proofs.LaneKeeping.{kept_left_as_written}
 use Rattle.session_core.proofs.lane.Lane.leave_last.Goals as goal

@@ -1,4 +1,4 @@
-use Rattle.std.proofs.Common.{◌≡◌, Bool, true, false, refl, sym, subst, ap, ◌∙◌}
+use Rattle.std.proofs.Common.{refl, sym, subst, ap, ◌∙◌}
 use Rattle.session_core.specs.declared.ordered_part.Status.TheVariants.{Settled}
 use Rattle.session_core.specs.Order.{IsOnItsWay, is_effective, trimmed}
 use Rattle.session_core.proofs.OrderGate.{gate_done, done_within}

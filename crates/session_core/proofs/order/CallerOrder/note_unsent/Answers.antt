@@ -1,6 +1,6 @@
-use Rattle.std.proofs.Common.{◌≡◌, Bool, true, false, refl, sym, subst, ap, ◌∙◌}
+use Rattle.std.proofs.Common.{◌≡◌, true, false, refl, sym, subst, ap, ◌∙◌}
 use Rattle.session_core.specs.declared.ordered_part.Status.TheVariants.{Unsent}
-use Rattle.session_core.specs.Order.{IsWaiting, is_effective, trimmed}
+use Rattle.session_core.specs.Order.{IsWaiting, trimmed}
 use Rattle.session_core.proofs.OrderGate.{gate_done, done_within}
 use Rattle.session_core.proofs.order.CallerOrder.note_unsent.Goals as goal
 

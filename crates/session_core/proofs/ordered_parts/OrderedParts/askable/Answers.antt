@@ -1,7 +1,7 @@
-use Rattle.std.proofs.Common.{◌≡◌, ◌<◌, ◌-◌, ℕ, length, Some, sym, subst, arith}
+use Rattle.std.proofs.Common.{◌<◌, ◌-◌, ℕ, length, Some, subst, arith}
 use Rattle.session_core.specs.declared.ordered_part.Status.TheVariants.{Waits}
 use Rattle.session_core.specs.Part.{have_slot}
-use Rattle.session_core.specs.Order.{Order, MayAskAmong, IsOf, Offers, NamesWaiting, IsOvertaken}
+use Rattle.session_core.specs.Order.{Order, MayAskAmong, IsOf, Offers, NamesWaiting}
 use Rattle.session_core.proofs.Places.{at_within, at_read}
 use Rattle.session_core.proofs.OrderAsks.{offers_may, offers_asks, no_offer, names, entry_there}
 use Rattle.session_core.proofs.ordered_parts.OrderedParts.askable.Goals as goal

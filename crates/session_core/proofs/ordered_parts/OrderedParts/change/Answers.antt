@@ -1,9 +1,8 @@
-use Rattle.std.proofs.Common.{◌≡◌, ◌<◌, ◌-◌, ℕ, List, length, Some, sym, subst, arith}
+use Rattle.std.proofs.Common.{◌<◌, ◌-◌, ℕ, List, length, sym, subst, arith}
 use Rattle.session_core.specs.declared.ordered_part.OrderedPart.{OrderedPart}
 use Rattle.session_core.specs.Inner.Lane.{with_status}
 use Rattle.session_core.specs.Inner.Kept.{MayBecome}
-use Rattle.session_core.specs.Order.{ordered_at}
-use Rattle.session_core.specs.Inner.Tied.{IsTied, MayChange, Stepped, lane_of, spot}
+use Rattle.session_core.specs.Inner.Tied.{IsTied, MayChange, Stepped, lane_of}
 use Rattle.session_core.proofs.Places.{at_within, at_read}
 use Rattle.session_core.proofs.OrderTies.{tied_changed}
 use Rattle.session_core.proofs.OrderAsks.{changes_there, becomes, spot_read}
