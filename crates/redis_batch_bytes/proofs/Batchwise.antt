@@ -15,11 +15,6 @@ use Rattle.resp_core.specs.declared.value.Value.{Value}
 use Rattle.redis_cluster.specs.Orders.{in_order}
 use Rattle.redis_cluster.proofs.Orders.{in_order-append, length-in_order}
 use Rattle.redis_bytes.specs.Replies.{IsAnswer}
-use Rattle.redis_batches.specs.Batched.{IsRight, put_at}
-use Rattle.redis_batches.specs.Plan.{Batches}
-use Rattle.redis_batches.specs.PipelinePlan.{PipelineBatches}
-use Rattle.redis_batches.specs.Replies.{AreRepliesFor}
-use Rattle.redis_batches.proofs.Putting.{length-put_at, put_kept, put_right}
 use Rattle.redis_batch_bytes.specs.Plans.{EachIsSent}
 use Rattle.redis_batch_bytes.specs.Replies.{BatchesAreAnswered, AreByBatch, AreTold, StandAsTold}
 use Rattle.redis_batch_bytes.specs.Told.{answer_of_wire}
@@ -28,6 +23,10 @@ use Rattle.redis_batch_bytes.specs.declared.fault.BatchFault.{BatchFault}
 use Rattle.redis_batch_bytes.specs.declared.fault.BatchFault.TheVariants as faults
 use Rattle.redis_batch_bytes.proofs.Fronts.{more_stand}
 use Rattle.redis_batch_bytes.proofs.Lists.{are_for, concat_more, same_lists, split_right, within}
+use Rattle.redis_batch_bytes.proofs.Putting.{length-put_at, put_kept, put_right}
+use Rattle.redis_batch_bytes.specs.CommandReplies.{AreRepliesFor}
+use Rattle.redis_batch_bytes.specs.Inner.Taken.{IsRight, put_at}
+use Rattle.redis_batch_bytes.specs.PipelinePlan.{Batches, PipelineBatches}
 
 -- answers stand in front of others
 pub more_told : (bytes rest after : List ℕ) (given own : List Answer) → StandAsTold bytes rest given → StandAsTold rest after own → StandAsTold bytes after (given ++ own)

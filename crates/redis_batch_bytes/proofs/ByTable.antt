@@ -8,14 +8,6 @@ use Rattle.cluster_slots.specs.Address.{Address}
 use Rattle.redis_routing.specs.Registry.{Registrations}
 use Rattle.redis_routing.specs.Split.{Split}
 use Rattle.cluster_map.specs.Numbered.{index_of}
-use Rattle.redis_batches.specs.Grouped.{places_in}
-use Rattle.redis_batches.specs.CommandTask.{IsTaskFor, slots_kept}
-use Rattle.redis_batches.specs.PipelinePlan.{IsPlanOfTasks, PipelineBatches}
-use Rattle.redis_batches.specs.Tasks.{AreSplitsFor}
-use Rattle.redis_batches.specs.declared.task.CommandTask.{CommandTask}
-use Rattle.redis_batches.proofs.ByNode.{places_within}
-use Rattle.redis_batches.proofs.Planning.{is_plan_of}
-use Rattle.redis_batches.proofs.ServerReplies.{splits_of_kept}
 use Rattle.redis_bytes.specs.Requests.{Words}
 use Rattle.redis_batch_bytes.specs.Commands.{AreRequests}
 use Rattle.redis_batch_bytes.specs.Parted.{AreParted, slots_listed}
@@ -25,13 +17,19 @@ use Rattle.redis_batch_bytes.specs.declared.fault.BatchFault.{BatchFault}
 use Rattle.redis_batch_bytes.specs.declared.fault.BatchFault.TheVariants as faults
 use Rattle.redis_batch_bytes.specs.declared.tasks.Part.{Part}
 use Rattle.redis_batch_bytes.proofs.Parted.{all_words, slots_of_parts, words_are}
+use Rattle.redis_batch_bytes.proofs.Places.{places_within}
+use Rattle.redis_batch_bytes.proofs.Planning.{is_plan_of}
+use Rattle.redis_batch_bytes.proofs.Splits.{splits_of_kept}
+use Rattle.redis_batch_bytes.specs.Inner.Kept.{IsPlanOfKept, IsTaskFor, Kept, slots_kept}
+use Rattle.redis_batch_bytes.specs.PipelinePlan.{PipelineBatches, places_in}
+use Rattle.redis_batch_bytes.specs.Splits.{AreSplitsFor}
 
-plan_of_requests : (registered : Registrations) (numbers bytes : List ℕ) (commands : List Words) (kept : List CommandTask) (nodes : List Address) (plan : PipelineBatches) → IsPlanOfTasks kept nodes plan → AreRequests commands bytes
+plan_of_requests : (registered : Registrations) (numbers bytes : List ℕ) (commands : List Words) (kept : List Kept) (nodes : List Address) (plan : PipelineBatches) → IsPlanOfKept kept nodes plan → AreRequests commands bytes
     → AllZip (IsTaskFor registered) commands kept → AllZip (IsNodeBy numbers) (flat_map slots_kept kept) nodes → IsPlanOfRequests registered numbers bytes plan
 plan_of_requests registered numbers bytes commands kept nodes plan is are each placed = record {
   commands = commands;
   are = are;
-  plan_is = is_plan_of registered (IsNodeBy numbers) (IsNodeBy numbers) commands kept nodes plan (λ slot a b is_a is_b. is_a.1 ∙ sym is_b.1) (λ slot node is. is) each is placed;
+  plan_is = is_plan_of registered (IsNodeBy numbers) commands kept nodes plan (λ slot a b is_a is_b. is_a.1 ∙ sym is_b.1) each is placed;
   splits_are = subst (AreSplitsFor registered commands) (sym is.splits) (splits_of_kept registered commands kept each);
 }
 
@@ -45,8 +43,6 @@ abbrev pub plan_for : List ℕ → List Words → List (Option Split) → List P
 plan_for numbers commands splits parts nodes places = record {
   splits = splits;
   batches = batches_of nodes places (all_words commands splits);
-  slots = slots_listed parts;
-  targets = map (node_numbered numbers) (slots_listed parts);
 }
 
 module _ (registered : Registrations) (numbers bytes nodes : List ℕ) (commands : List Words) (splits : List (Option Split)) (parts : List Part) (places : List (List ℕ)) (are : AreRequests commands bytes)
@@ -60,8 +56,6 @@ module _ (registered : Registrations) (numbers bytes nodes : List ℕ) (commands
       plan_of_requests registered numbers bytes commands is.kept (map (node_numbered numbers) (slots_listed parts)) plan
       (record {
         splits = is.splits_are;
-        slots = same_slots;
-        targets_are = refl;
         parts = ap (λ s. map (map Some) (all_words commands s)) is.splits_are ∙ words_are registered commands is.kept is.each;
         by_node = record { numbers = placed.by_node.numbers; numbered = placed.by_node.numbered; each = placed.by_node.each; places = placed.by_node.places };
       })

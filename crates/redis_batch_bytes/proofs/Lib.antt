@@ -1,5 +1,13 @@
 pub mod Fronts
+pub mod Putting
 pub mod Lists
+pub mod Places
+pub mod FirstWithout
+pub mod Meanings
+pub mod Planning
+pub mod Splits
+pub mod Answered
+pub mod PutBack
 pub mod Sent
 pub mod Batchwise
 pub mod Parted

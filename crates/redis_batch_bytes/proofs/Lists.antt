@@ -12,9 +12,9 @@ use Rattle.resp_core.specs.ErrorParts.{ErrorParts}
 use Rattle.resp_core.specs.declared.value.Value.{Value}
 use Rattle.redis_cluster.specs.Orders.{in_order}
 use Rattle.redis_cluster.proofs.Orders.{get-in_order, in_order-append}
-use Rattle.redis_batches.proofs.Putting.{AreFor}
 use Rattle.resp.specs.Forms.{request}
 use Rattle.redis_batch_bytes.specs.Batches.{batch_bytes}
+use Rattle.redis_batch_bytes.proofs.Putting.{AreFor}
 
 -- what is found in a list is within it
 pub within : {X : Type 0} (xs : List X) (n : ℕ) (x : X) → slice_get xs n ≡ Some x → n < length xs

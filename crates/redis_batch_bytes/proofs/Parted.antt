@@ -1,5 +1,5 @@
 -- The parts of requests: where each stands, and its words.
-use Rattle.std.proofs.Common.{◌≡◌, ◌<◌, ◌≤◌, ◌+◌, ◌-◌, ◌⊎◌, inl, inr, ℕ, zero, suc, List, [], ◌∷◌, ◌++◌, Bool, true, false, Bor, Option, None, Some, IfSome, MatchOption, All, refl, sym, ap, subst, ◌∙◌, arith, length, map, option_map, take, get_or}
+use Rattle.std.proofs.Common.{◌≡◌, ◌<◌, ◌≤◌, ◌+◌, ◌-◌, ◌⊎◌, inl, inr, ℕ, zero, suc, List, [], ◌∷◌, ◌++◌, Bool, true, false, Option, None, Some, IfSome, MatchOption, All, refl, sym, ap, subst, ◌∙◌, arith, length, map, option_map, take, get_or}
 use Rattle.std.proofs.lemmas.Grind.{common_steps}
 use Rattle.std.specs.Prelude.{slice_get, unwrap_or}
 use Rattle.std.specs.List.{AllZip, flat_map}
@@ -16,20 +16,16 @@ use Rattle.redis_routing.specs.Split.{IsSplit, Split, slots_of, split_part}
 use Rattle.redis_routing.specs.PresentArguments.{present_arguments}
 use Rattle.redis_routing.specs.Laws.{ArePartsPicked}
 use Rattle.redis_routing.proofs.Picks.{complete_fits, parts_picked}
-use Rattle.redis_batches.specs.Taken.{task_of}
-use Rattle.redis_batches.specs.Pipeline.{Task}
-use Rattle.redis_batches.specs.Placed.{IsFirstWithout}
-use Rattle.redis_batches.specs.Tasks.{AreTasksOf, part_arguments, slots_of_task}
-use Rattle.redis_batches.specs.CommandTask.{IsMeaning, IsTaskFor, SlotPart, slot_parts, slots_kept, split_in}
-use Rattle.redis_batches.specs.declared.task.CommandTask.{CommandTask}
-use Rattle.redis_batches.specs.declared.task.CommandTask.TheVariants.{InSlot, OverKeys}
-use Rattle.redis_batches.proofs.Placing.{first_without, zipped_long}
-use Rattle.redis_batches.proofs.Planning.{first_fault}
-use Rattle.redis_batches.proofs.Putting.{get_front}
 use Rattle.redis_bytes.specs.Requests.{Words}
 use Rattle.redis_batch_bytes.specs.declared.tasks.Part.{Part}
 use Rattle.redis_batch_bytes.proofs.Lists.{take_next}
 use Rattle.redis_batch_bytes.specs.Parted.{AreParted, AreWordsOf, IsOwnSplit, IsWordsOf, parts_from, parts_numbered, slots_listed, slots_meant}
+use Rattle.redis_batch_bytes.proofs.FirstWithout.{first_without, zipped_long}
+use Rattle.redis_batch_bytes.proofs.Planning.{first_fault}
+use Rattle.redis_batch_bytes.proofs.Putting.{get_front}
+use Rattle.redis_batch_bytes.specs.Inner.Kept.{IsMeaning, IsTaskFor, Kept, SlotPart, divided, slot_parts, slots_kept, split_in, whole}
+use Rattle.redis_batch_bytes.specs.PipelinePlan.{IsFirstWithout}
+use Rattle.redis_batch_bytes.specs.Tasks.{AreTasksOf, Task, part_arguments, slots_of_task, task_of}
 
 -- what stands behind a list
 nth_right : {X : Type 0} (xs ys : List X) (k : ℕ) → slice_get (xs ++ ys) (length xs + k) ≡ slice_get ys k
@@ -148,12 +144,12 @@ each_there split (r ∷ routes) all =
     ap (λ a. a ∷ map (map Some) (map (λ slot. present_words (split_part split slot)) (slots_of routes))) (All-head (IsThere split) r routes all)
     ∙ ap (λ l. split_part split r.0.slot ∷ l) (each_there split routes (All-tail (IsThere split) r routes all))
 
-words_one : (registered : Registrations) (args : Words) (kept : CommandTask) → IsTaskFor registered args kept → map (map Some) (words_of args (split_in kept)) ≡ map (λ (p : SlotPart). p.1) (slot_parts kept)
+words_one : (registered : Registrations) (args : Words) (kept : Kept) → IsTaskFor registered args kept → map (map Some) (words_of args (split_in kept)) ≡ map (λ (p : SlotPart). p.1) (slot_parts kept)
 unfolding words_of
-words_one registered args (InSlot slot command) is = sym (is.3 ∙ ap (part_arguments registered args) is.2.0)
-words_one registered args (OverKeys split) is = each_there split split.routes (part_there split is.2.2.split_is)
+words_one registered args (whole slot words) is = sym (is.3 ∙ ap (part_arguments registered args) is.2.0)
+words_one registered args (divided split) is = each_there split split.routes (part_there split is.2.2.split_is)
 
-pub words_are : (registered : Registrations) (commands : List Words) (kept : List CommandTask) → AllZip (IsTaskFor registered) commands kept
+pub words_are : (registered : Registrations) (commands : List Words) (kept : List Kept) → AllZip (IsTaskFor registered) commands kept
     → map (map Some) (all_words commands (map split_in kept)) ≡ map (λ (p : SlotPart). p.1) (flat_map slot_parts kept)
 unfolding all_words
 words_are registered [] [] each = refl
@@ -166,10 +162,10 @@ words_are registered (args ∷ commands) (k ∷ kept) each =
     ∙ sym (map-append (λ (p : SlotPart). p.1) (slot_parts k) (flat_map slot_parts kept))
 
 -- as many as its slots
-words_long : (args : Words) (kept : CommandTask) → length (words_of args (split_in kept)) ≡ length (slots_kept kept)
+words_long : (args : Words) (kept : Kept) → length (words_of args (split_in kept)) ≡ length (slots_kept kept)
 unfolding words_of
-words_long args (InSlot slot command) = refl
-words_long args (OverKeys split) = length-map (slots_of split.routes) (λ slot. present_words (split_part split slot))
+words_long args (whole slot words) = refl
+words_long args (divided split) = length-map (slots_of split.routes) (λ slot. present_words (split_part split slot))
 
 word_of_route : (split : Split) (routes : List (SlotRoute × List ℕ)) (route : ℕ) (own : Words) → Some (map Some own) ≡ option_map (λ r. split_part split r.0.slot) (slice_get routes route)
     → slice_get (map (λ slot. present_words (split_part split slot)) (slots_of routes)) route ≡ Some own
@@ -177,13 +173,13 @@ word_of_route split [] route own is = absurd (cc is)
 word_of_route split (r ∷ routes) zero own is = ap Some (ap present_words (sym (same_Some (map Some own) (split_part split r.0.slot) is)) ∙ words_again own)
 word_of_route split (r ∷ routes) (suc route) own is = word_of_route split routes route own is
 
-word_one : (args : Words) (kept : CommandTask) (route slot : ℕ) (own : Words) → slice_get (slots_kept kept) route ≡ Some slot → IsWordsOf args (split_in kept) route own → slice_get (words_of args (split_in kept)) route ≡ Some own
+word_one : (args : Words) (kept : Kept) (route slot : ℕ) (own : Words) → slice_get (slots_kept kept) route ≡ Some slot → IsWordsOf args (split_in kept) route own → slice_get (words_of args (split_in kept)) route ≡ Some own
 unfolding words_of
-word_one args (InSlot s command) zero slot own at is = ap Some (sym is)
-word_one args (InSlot s command) (suc route) slot own at is = absurd (cc at)
-word_one args (OverKeys split) route slot own at is = word_of_route split split.routes route own is
+word_one args (whole s words) zero slot own at is = ap Some (sym is)
+word_one args (whole s words) (suc route) slot own at is = absurd (cc at)
+word_one args (divided split) route slot own at is = word_of_route split split.routes route own is
 
-word_in : (R : Words → CommandTask → Type 0) (commands : List Words) (kept : List CommandTask) (before route slot : ℕ) (k : CommandTask) (own : Words) → AllZip R commands kept → slice_get kept before ≡ Some k → slice_get (slots_kept k) route ≡ Some slot
+word_in : (R : Words → Kept → Type 0) (commands : List Words) (kept : List Kept) (before route slot : ℕ) (k : Kept) (own : Words) → AllZip R commands kept → slice_get kept before ≡ Some k → slice_get (slots_kept k) route ≡ Some slot
     → IsWordsOf (get_or commands before []) (get_or (map split_in kept) before None) route own
     → slice_get (all_words commands (map split_in kept)) (length (flat_map slots_kept (take before kept)) + route) ≡ Some own
 unfolding all_words
@@ -203,7 +199,7 @@ word_in R (args ∷ commands) (k' ∷ kept) (suc before) route slot k own each t
     ap (slice_get (words_of args (split_in k') ++ all_words commands (map split_in kept))) index ∙ nth_right (words_of args (split_in k')) (all_words commands (map split_in kept)) later
     ∙ word_in R commands kept before route slot k own each.1 there at is
 
-words_many : (R : Words → CommandTask → Type 0) (commands : List Words) (kept : List CommandTask) → AllZip R commands kept → length (all_words commands (map split_in kept)) ≡ length (flat_map slots_kept kept)
+words_many : (R : Words → Kept → Type 0) (commands : List Words) (kept : List Kept) → AllZip R commands kept → length (all_words commands (map split_in kept)) ≡ length (flat_map slots_kept kept)
 unfolding all_words
 words_many R [] [] each = refl
 words_many R [] (k ∷ kept) each = absurd each
@@ -219,9 +215,9 @@ zip_at R (a ∷ xs) [] i x y each inside = absurd each
 zip_at R (a ∷ xs) (b ∷ ys) zero x y each inside = each.0
 zip_at R (a ∷ xs) (b ∷ ys) (suc i) x y each inside = zip_at R xs ys i x y each.1 (omega (arith, inside))
 
-route_within : (k : CommandTask) (route slot : ℕ) → slice_get (slots_kept k) route ≡ Some slot → IfSome (split_in k) (λ split. route < length split.routes)
-route_within (InSlot s command) route slot at = tt
-route_within (OverKeys split) route slot at = omega (arith, slice_get_within (slots_of split.routes) route slot at, length-map split.routes (λ r. r.0.slot))
+route_within : (k : Kept) (route slot : ℕ) → slice_get (slots_kept k) route ≡ Some slot → IfSome (split_in k) (λ split. route < length split.routes)
+route_within (whole s words) route slot at = tt
+route_within (divided split) route slot at = omega (arith, slice_get_within (slots_of split.routes) route slot at, length-map split.routes (λ r. r.0.slot))
 
 -- a part is of a command that is there, and has its route
 abbrev pub PartFits : List Words → List (Option Split) → Part → Type 0
@@ -285,11 +281,10 @@ module _ (registered : Registrations) (commands : List Words) (splits : List (Op
 
 -- what is kept of a command that means this
 meant_as : (registered : Registrations) (args : Words) (split : Option Split) (slot : Option ℕ) (slots : List ℕ) → IsMeaning registered args split slot → slots_meant split slot ≡ Some slots
-    → (k : CommandTask) × IsTaskFor registered args k × (split_in k ≡ split) × (slots_kept k ≡ slots) × IsOwnSplit args split
-meant_as registered args (Some split) slot slots is meant = (OverKeys split, is.2, refl, same_Some (slots_of split.routes) slots meant, is.1)
+    → (k : Kept) × IsTaskFor registered args k × (split_in k ≡ split) × (slots_kept k ≡ slots) × IsOwnSplit args split
+meant_as registered args (Some split) slot slots is meant = (divided split, is.2, refl, same_Some (slots_of split.routes) slots meant, is.1)
 meant_as registered args None (Some slot) slots is meant =
-    let command : Bor Words = record { ref_ptr = (0, 0); now = args } in
-    (InSlot slot command, is command refl, refl, same_Some (slot ∷ []) slots meant, tt)
+    (whole slot args, is, refl, same_Some (slot ∷ []) slots meant, tt)
 meant_as registered args None None slots is meant = absurd (cc meant)
 
 pub keep_one : (registered : Registrations) (requests : List Words) (n : ℕ) (splits more : List (Option Split)) (parts : List Part) (args : Words) (split : Option Split) (slot : Option ℕ) (slots : List ℕ) (grown : List Part) → n < length requests

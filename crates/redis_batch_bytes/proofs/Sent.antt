@@ -9,10 +9,9 @@ use Rattle.cluster_slots.specs.Address.{Address}
 use Rattle.redis_routing.specs.Registry.{Registrations}
 use Rattle.redis_cluster.proofs.Counts.{same_number}
 use Rattle.cluster_map.specs.Numbered.{index_of}
-use Rattle.redis_batches.specs.Grouped.{places_in}
-use Rattle.redis_batches.specs.PipelinePlan.{IsPlanOfCommands, PipelineBatches, pieces_of}
-use Rattle.redis_batches.specs.Taken.{task_of}
 use Rattle.redis_batch_bytes.specs.Plans.{EachIsSent}
+use Rattle.redis_batch_bytes.specs.PipelinePlan.{IsPlanOfCommands, PipelineBatches, places_in}
+use Rattle.redis_batch_bytes.specs.Tasks.{pieces_of, task_of}
 
 -- the numbers of the elements that are k, the first of which has the number m
 abbrev places_from : ℕ → List ℕ → ℕ → List ℕ

@@ -16,16 +16,16 @@ use Rattle.redis_routing.specs.Split.{Split}
 use Rattle.redis_cluster.specs.Joined.{IsOutcome}
 use Rattle.redis_cluster.specs.MultiKey.{MultiKey, slots_in}
 use Rattle.redis_cluster.proofs.SplitTuples.{command_shares}
-use Rattle.redis_batches.specs.Batched.{put_at}
-use Rattle.redis_batches.specs.Pipeline.{Task, in_slot, over_keys}
-use Rattle.redis_batches.specs.Replies.{AreRepliesFor, AreRepliesTo, IsReplyTo, all_replies}
-use Rattle.redis_batches.specs.Tasks.{AreSplitsOf, IsSplitAs, slots_of_task}
-use Rattle.redis_batches.proofs.Putting.{map-put_at}
 use Rattle.redis_bytes.specs.Replies.{IsAnswer, IsWritable}
 use Rattle.redis_bytes.proofs.Formed.{read_formed}
 use Rattle.redis_bytes.proofs.JoinedForm.{outcome_formed}
 use Rattle.redis_batch_bytes.specs.Replies.{IsWritableAnswer, StandAsTold}
 use Rattle.redis_batch_bytes.specs.Told.{WireAnswer, answer_of_wire}
+use Rattle.redis_batch_bytes.proofs.Putting.{map-put_at}
+use Rattle.redis_batch_bytes.specs.CommandReplies.{AreRepliesFor, AreRepliesTo, IsReplyTo, all_replies}
+use Rattle.redis_batch_bytes.specs.Inner.Taken.{put_at}
+use Rattle.redis_batch_bytes.specs.Splits.{AreSplitsOf, IsSplitAs}
+use Rattle.redis_batch_bytes.specs.Tasks.{Task, in_slot, over_keys, slots_of_task}
 
 abbrev pub AreWritable : List Answer → Type 0
 AreWritable answers = AllByRecursion IsWritableAnswer answers

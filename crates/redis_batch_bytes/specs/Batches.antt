@@ -5,8 +5,8 @@ use Rattle.resp.specs.Forms.{request}
 use Rattle.resp_core.specs.ItemEnds.{item_ends}
 use Rattle.redis_cluster.specs.Orders.{in_order}
 use Rattle.redis_routing.specs.Split.{Split}
-use Rattle.redis_batches.specs.Plan.{Batches}
-use Rattle.redis_batches.specs.Replies.{part_count}
+use Rattle.redis_batch_bytes.specs.PipelinePlan.{Batches}
+use Rattle.redis_batch_bytes.specs.Splits.{part_count}
 use Rattle.redis_batch_bytes.specs.declared.splitting.BatchBytes.{BatchBytes}
 
 -- the requests of the parts at these indices, end to end

@@ -1,3 +1,8 @@
+pub mod Tasks
+pub mod Splits
+pub mod PipelinePlan
+pub mod CommandReplies
+pub mod Inner
 pub mod Commands
 pub mod Plans
 pub mod Batches

@@ -2,8 +2,8 @@
 use Rattle.std.specs.Prelude.{◌≡◌, ◌≢◌, ℕ, List, [], get_or, map}
 use Rattle.std.specs.List.{All}
 use Rattle.cluster_slots.specs.Address.{Address}
-use Rattle.redis_batches.specs.Plan.{Batches, IsByNode}
 use Rattle.redis_bytes.specs.Requests.{Words}
+use Rattle.redis_batch_bytes.specs.PipelinePlan.{Batches, IsByNode}
 
 -- the address that stands for a number: no host, and the number as its port
 abbrev pub address_of_number : ℕ → Address
@@ -28,10 +28,10 @@ IsNodeBy numbers slot address =
 abbrev pub node_numbered : List ℕ → ℕ → Address
 node_numbered numbers slot = address_of_number (number_at numbers slot)
 
--- the batches of parts with these words, before there are answers
+-- the batches of parts with these words
 abbrev pub batches_of : List ℕ → List (List ℕ) → List Words → Batches
 batches_of nodes places words =
-    record { nodes = map address_of_number nodes; places = places; told = []; parts = words; answers = [] }
+    record { nodes = map address_of_number nodes; places = places; parts = words }
 
 -- Each of these slots has a node, and the batches are one for each node.
 pub record ArePlaced (numbers slots nodes : List ℕ) (places : List (List ℕ)) : Type 0 where

@@ -3,9 +3,8 @@ use Rattle.std.specs.Prelude.{◌≡◌, ◌+◌, ℕ, List, [], ◌∷◌, ◌+
 use Rattle.std.specs.List.{AllZip}
 use Rattle.redis_routing.specs.Registry.{Registrations}
 use Rattle.redis_routing.specs.Split.{Split, route_part, slots_of}
-use Rattle.redis_batches.specs.CommandTask.{IsTaskFor, slots_kept, split_in}
-use Rattle.redis_batches.specs.declared.task.CommandTask.{CommandTask}
 use Rattle.redis_bytes.specs.Requests.{Words}
+use Rattle.redis_batch_bytes.specs.Inner.Kept.{IsTaskFor, Kept, slots_kept, split_in}
 use Rattle.redis_batch_bytes.specs.declared.tasks.Part.{Part}
 
 -- the slots of what a command means: those of its routes, or the one that it keeps to
@@ -36,7 +35,7 @@ IsOwnSplit words (Some split) = split.arguments ≡ map Some words
 -- Each command means something, and these are their splits and their parts.
 pub record AreParted (registered : Registrations) (commands : List Words) (splits : List (Option Split))
     (parts : List Part) : Type 0 where
-  pub kept : List CommandTask
+  pub kept : List Kept
   pub each : AllZip (IsTaskFor registered) commands kept
   pub own : AllZip IsOwnSplit commands splits
   pub splits_are : splits ≡ map split_in kept

@@ -1,17 +1,14 @@
 -- A pipeline's requests as bytes, and the plan of its commands by a table.
 use Rattle.std.specs.Prelude.{◌≡◌, ◌<◌, ℕ, List, Some, Contains, length, map, slice_get}
 use Rattle.redis_routing.specs.Registry.{Registrations}
-use Rattle.redis_batches.specs.Pipeline.{Task}
-use Rattle.redis_batches.specs.Pipelined.{IsFirstMeaningless}
-use Rattle.redis_batches.specs.Placed.{IsFirstWithout}
-use Rattle.redis_batches.specs.Plan.{Batches}
-use Rattle.redis_batches.specs.PipelinePlan.{IsPlanOfCommands, PipelineBatches}
-use Rattle.redis_batches.specs.Tasks.{AreSplitsFor, AreTasksOf, slots_of_task}
 use Rattle.redis_bytes.specs.Requests.{Words}
 use Rattle.redis_batch_bytes.specs.declared.fault.BatchFault.{BatchFault}
 use Rattle.redis_batch_bytes.specs.declared.fault.BatchFault.TheVariants.{Memory, NotCovered, NotRoutable}
 use Rattle.redis_batch_bytes.specs.Commands.{AreRequests, RequestsAreUnread}
 use Rattle.redis_batch_bytes.specs.Numbered.{HasNoNumber, HasNumber, IsNodeBy}
+use Rattle.redis_batch_bytes.specs.PipelinePlan.{Batches, IsFirstWithout, IsPlanOfCommands, PipelineBatches}
+use Rattle.redis_batch_bytes.specs.Splits.{AreSplitsFor}
+use Rattle.redis_batch_bytes.specs.Tasks.{AreTasksOf, IsFirstMeaningless, Task, slots_of_task}
 
 -- The bytes are requests, and this is a plan of their commands, by a table.
 pub record IsPlanOfRequests (registered : Registrations) (numbers bytes : List ℕ)

@@ -8,10 +8,9 @@ use Rattle.resp_core.specs.declared.value.Value.{Value}
 use Rattle.redis_routing.specs.Registry.{Registrations}
 use Rattle.redis_cluster.specs.Orders.{in_order}
 use Rattle.redis_bytes.specs.Replies.{IsAnswer, IsWritable}
-use Rattle.redis_batches.specs.Batched.{IsRight}
-use Rattle.redis_batches.specs.Plan.{Batches}
-use Rattle.redis_batches.specs.PipelinePlan.{PipelineBatches}
-use Rattle.redis_batches.specs.Replies.{AreRepliesFor}
+use Rattle.redis_batch_bytes.specs.CommandReplies.{AreRepliesFor}
+use Rattle.redis_batch_bytes.specs.Inner.Taken.{IsRight}
+use Rattle.redis_batch_bytes.specs.PipelinePlan.{Batches, PipelineBatches}
 use Rattle.redis_batch_bytes.specs.declared.fault.BatchFault.{BatchFault}
 use Rattle.redis_batch_bytes.specs.Plans.{IsPlanOfRequests, IsUnplanned}
 use Rattle.redis_batch_bytes.specs.Told.{WireAnswer, answer_form, answer_of_wire}

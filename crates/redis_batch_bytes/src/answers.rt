@@ -8,7 +8,7 @@ ghost use Rattle.redis_batch_bytes.specs.Unread.{AreUnreadAnswers, IsNoAnswer, I
 
 use crate::errors::told;
 use crate::fault::BatchFault;
-use redis_batches::{no_answers, put_answers};
+use crate::placing::{no_answers, put_answers};
 use resp::{ReadError, read};
 use resp_core::{RedisError, Value};
 use std::alloc::Global;

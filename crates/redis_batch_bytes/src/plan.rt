@@ -2,16 +2,16 @@ ghost use Rattle.std.specs.Prelude.{◌≡◌, ◌<◌, List, length, map, take,
 ghost use Rattle.std.specs.List.{All};
 ghost use Rattle.redis_routing.specs.Registry.{Registrations};
 ghost use Rattle.cluster_map.specs.Numbered.{AreNumbered};
-ghost use Rattle.redis_batches.specs.Placed.{StopsAt};
 ghost use Rattle.redis_bytes.specs.Requests.{Words};
+ghost use Rattle.redis_batch_bytes.specs.Inner.Stops.{StopsAt};
 ghost use Rattle.redis_batch_bytes.specs.Parted.{AreParted, slots_listed};
 ghost use Rattle.redis_batch_bytes.specs.Numbered.{ArePlaced, HasNoNumber, HasNumber, address_of_number, node_numbered, number_at};
 ghost use Rattle.redis_batch_bytes.specs.Plans.{HaveNoPlan};
 
 use crate::fault::BatchFault;
+use crate::grouping::places_by_number;
 use crate::tasks::{Part, Tasks};
 use indexmap::IndexSet;
-use redis_batches::places_by_number;
 use redis_bytes::NO_NODE;
 use std::alloc::{AllocError, Global};
 

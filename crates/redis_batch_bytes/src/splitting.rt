@@ -2,13 +2,13 @@ ghost use Rattle.std.specs.Prelude.{◌≡◌, ◌<◌, ◌++◌, List, map, len
 ghost use Rattle.std.specs.List.{All};
 ghost use Rattle.resp.specs.Forms.{request};
 ghost use Rattle.redis_routing.specs.Registry.{Registrations};
-ghost use Rattle.redis_batches.specs.Replies.{part_count};
-ghost use Rattle.redis_batches.specs.PipelinePlan.{PipelineBatches};
 ghost use Rattle.redis_bytes.specs.Requests.{Words};
 ghost use Rattle.redis_batch_bytes.specs.Batches.{AreBatchesOf, batch_bytes};
 ghost use Rattle.redis_batch_bytes.specs.Parted.{AreParted, AreWordsOf, IsOwnSplit, IsWordsOf};
 ghost use Rattle.redis_batch_bytes.specs.Numbered.{batches_of};
+ghost use Rattle.redis_batch_bytes.specs.PipelinePlan.{PipelineBatches};
 ghost use Rattle.redis_batch_bytes.specs.Plans.{IsPlanOfRequests, IsUnplanned};
+ghost use Rattle.redis_batch_bytes.specs.Splits.{part_count};
 
 use crate::fault::BatchFault;
 use crate::plan::{Plan, plan_by};

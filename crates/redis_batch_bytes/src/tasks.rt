@@ -5,8 +5,8 @@ ghost use Rattle.redis_batch_bytes.specs.Parted.{AreParted, parts_from, slots_me
 ghost use Rattle.redis_batch_bytes.specs.Plans.{HaveNoPlan};
 
 use crate::fault::BatchFault;
+use crate::meaning::meaning_of;
 use cluster_slots::Route;
-use redis_batches::meaning_of;
 use redis_bytes::Request;
 use redis_routing::{Registry, SplitCommand};
 use std::alloc::{AllocError, Global};

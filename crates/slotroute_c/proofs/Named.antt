@@ -1,8 +1,8 @@
 -- What holds by the names of a text.
 use Rattle.std.proofs.Common.{◌≡◌, ◌≢◌, ℕ, List, refl}
-use Rattle.redis_batches.specs.PipelinePlan.{PipelineBatches}
 use Rattle.redis_batch_bytes.specs.declared.splitting.BatchBytes.{BatchBytes}
 use Rattle.redis_batch_bytes.specs.Batches.{AreBatchesOf}
+use Rattle.redis_batch_bytes.specs.PipelinePlan.{PipelineBatches}
 use Rattle.redis_batch_bytes.specs.Plans.{IsPlanOfRequests}
 use Rattle.redis_bytes.specs.NameLines.{AreNamesIn, HasNoNames}
 use Rattle.redis_bytes.specs.declared.fault.BytesFault.{BytesFault}

@@ -1,11 +1,11 @@
 -- The batches of a pipeline by a table of node numbers, its replies, and what `told` reports.
 use Rattle.std.specs.Prelude.{◌≡◌, ◌≤◌, ◌⊎◌, ℕ, List, length}
 use Rattle.redis_routing.specs.Registry.{Registrations}
-use Rattle.redis_batches.specs.PipelinePlan.{PipelineBatches}
 use Rattle.redis_batch_bytes.specs.declared.fault.BatchFault.{BatchFault}
 use Rattle.redis_batch_bytes.specs.declared.fault.BatchFault.TheVariants as faults
 use Rattle.redis_batch_bytes.specs.declared.splitting.BatchBytes.{BatchBytes}
 use Rattle.redis_batch_bytes.specs.Batches.{AreBatchesOf}
+use Rattle.redis_batch_bytes.specs.PipelinePlan.{PipelineBatches}
 use Rattle.redis_batch_bytes.specs.Plans.{IsPlanOfRequests}
 use Rattle.redis_batch_bytes.specs.Replies.{RepliesAreWritten}
 use Rattle.slotroute_c.specs.declared.outcomes.Outcome.{Outcome}

@@ -1,6 +1,6 @@
 //! A pipeline, sent as one batch for each node, in bytes.
 ghost use Rattle.std.specs.Prelude.{IfOk};
-ghost use Rattle.redis_batches.specs.PipelinePlan.{PipelineBatches};
+ghost use Rattle.redis_batch_bytes.specs.PipelinePlan.{PipelineBatches};
 ghost use Rattle.redis_batch_bytes.specs.Plans.{IsPlanOfRequests};
 ghost use Rattle.redis_batch_bytes.specs.Replies.{RepliesAreWritten};
 

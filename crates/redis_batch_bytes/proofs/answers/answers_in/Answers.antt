@@ -2,11 +2,11 @@ use Rattle.std.proofs.Common.{◌≡◌, ◌<◌, ◌≤◌, ◌∙◌, [], All,
 use Rattle.std.proofs.lemmas.Bool.Decides.{nat_tests}
 use Rattle.std.proofs.lemmas.List.{length-map}
 use Rattle.std.proofs.lemmas.Option.{get_or_from_slice_get}
-use Rattle.redis_batches.specs.Batched.{put_at}
 use Rattle.redis_batch_bytes.proofs.Batchwise.{all_told, none_so_far, one_batch_more}
 use Rattle.redis_batch_bytes.proofs.Lists.{own_list}
 use Rattle.redis_batch_bytes.proofs.Writable.{AreWritable, answers_put, nils_writable}
 use Rattle.resp_core.specs.Answer.{answer_of}
+use Rattle.redis_batch_bytes.specs.Inner.Taken.{put_at}
 use Rattle.redis_batch_bytes.proofs.answers.answers_in.Goals as goal
 use Rattle.redis_batch_bytes.proofs.answers.answers_in.Goals.{In_ok-given}
 

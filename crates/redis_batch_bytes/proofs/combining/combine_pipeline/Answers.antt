@@ -4,9 +4,6 @@ use Rattle.std.proofs.lemmas.List.{length-map}
 use Rattle.std.proofs.lemmas.Result.{IfErr-weaker, IfOk-weaker, err_from_is_err_and}
 use Rattle.resp_core.specs.Answer.{answer_of}
 use Rattle.redis_routing.specs.Split.{Split}
-use Rattle.redis_batches.specs.PipelinePlan.{PipelineBatches}
-use Rattle.redis_batches.specs.Replies.{AreRepliesFor, part_count}
-use Rattle.redis_batches.proofs.Planning.{counts_of_kept}
 use Rattle.redis_bytes.specs.Requests.{Words}
 use Rattle.redis_batch_bytes.specs.Commands.{AreRequests}
 use Rattle.redis_batch_bytes.specs.Parted.{AreParted, slots_listed}
@@ -20,7 +17,10 @@ use Rattle.redis_batch_bytes.proofs.ByTable.{plan_for, planned, unplanned, withi
 use Rattle.redis_batch_bytes.proofs.Parted.{are_words, count_is}
 use Rattle.redis_batch_bytes.proofs.Sent.{each_is_sent}
 use Rattle.redis_batch_bytes.proofs.Writable.{HasTasks}
-use Rattle.redis_batches.specs.Tasks.{AreSplitsOf}
+use Rattle.redis_batch_bytes.proofs.Planning.{counts_of_kept}
+use Rattle.redis_batch_bytes.specs.CommandReplies.{AreRepliesFor}
+use Rattle.redis_batch_bytes.specs.PipelinePlan.{PipelineBatches}
+use Rattle.redis_batch_bytes.specs.Splits.{AreSplitsOf, part_count}
 use Rattle.redis_batch_bytes.proofs.combining.combine_pipeline.Goals as goal
 use Rattle.redis_batch_bytes.proofs.combining.combine_pipeline.Goals.{In_ok-plan, In_ok-answers}
 

@@ -2,8 +2,9 @@ use Rattle.std.proofs.Common.{◌-◌, arith, length, map, subst, sym, take}
 use Rattle.std.proofs.lemmas.Grind.{common_steps}
 use Rattle.std.proofs.Math.Seq.{take-length}
 use Rattle.resp_core.specs.Answer.{answer_of}
-use Rattle.redis_batches.specs.Replies.{AreRepliesFor, IsTakenFor}
-use Rattle.redis_batches.proofs.PutBack.{all_put_back, last_of, none_put_back, one_put_back}
+use Rattle.redis_batch_bytes.proofs.PutBack.{all_put_back, last_of, none_put_back, one_put_back}
+use Rattle.redis_batch_bytes.specs.CommandReplies.{AreRepliesFor}
+use Rattle.redis_batch_bytes.specs.Inner.Taken.{IsTakenFor}
 use Rattle.redis_batch_bytes.proofs.combining.replies_of.Goals as goal
 
 pub loop-number-init : goal.loop-number-init

@@ -1,5 +1,5 @@
 use Rattle.std.proofs.Common.{take}
-use Rattle.redis_batches.proofs.PutBack.{ArePutBack}
+use Rattle.redis_batch_bytes.proofs.PutBack.{ArePutBack}
 use Rattle.redis_batch_bytes.proofs.combining.replies_of.Given as goal
 
 -- so many first commands have no replies yet

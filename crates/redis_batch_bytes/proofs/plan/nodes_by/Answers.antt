@@ -4,10 +4,10 @@ use Rattle.std.specs.List.{list_any, position_or_len}
 use Rattle.indexmap.specs.IndexSet.{insert_key}
 use Rattle.std.proofs.lemmas.List.{get_or-map, length-map, length_push, map_push, take_more}
 use Rattle.std.proofs.lemmas.List.Elements.{All-append, All-cons, All-nil}
-use Rattle.redis_batches.proofs.Placing.{stops_behind}
 use Rattle.redis_batch_bytes.specs.Parted.{slots_listed}
 use Rattle.redis_batch_bytes.specs.Numbered.{HasNoNumber, HasNumber, address_of_number, node_numbered, number_at}
 use Rattle.redis_batch_bytes.proofs.Numbering.{number_next}
+use Rattle.redis_batch_bytes.proofs.FirstWithout.{stops_behind}
 use Rattle.redis_batch_bytes.proofs.plan.nodes_by.Goals as goal
 use Rattle.redis_batch_bytes.proofs.plan.nodes_by.Goals.{then-is_new+in_ok-push, else-is_new}
 

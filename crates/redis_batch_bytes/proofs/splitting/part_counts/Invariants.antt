@@ -1,5 +1,5 @@
 use Rattle.std.proofs.Common.{◌≡◌, map, take}
-use Rattle.redis_batches.specs.Replies.{part_count}
+use Rattle.redis_batch_bytes.specs.Splits.{part_count}
 use Rattle.redis_batch_bytes.proofs.splitting.part_counts.Given as goal
 
 -- the counts of the first requests

@@ -3,11 +3,11 @@ use Rattle.std.specs.List.{concat, flat_map}
 use Rattle.resp_core.specs.ItemEnds.{item_ends}
 use Rattle.std.proofs.lemmas.List.{length-map, map_push, take_all}
 use Rattle.std.proofs.lemmas.Option.{get_or_from_slice_get}
-use Rattle.redis_batches.specs.Replies.{part_count}
 use Rattle.redis_bytes.proofs.Ends.{more_bytes, more_ends}
 use Rattle.redis_batch_bytes.specs.Batches.{batch_bytes}
 use Rattle.redis_batch_bytes.proofs.ByTable.{ports}
 use Rattle.redis_batch_bytes.proofs.Lists.{concat_more, own_list, take_next}
+use Rattle.redis_batch_bytes.specs.Splits.{part_count}
 use Rattle.redis_batch_bytes.proofs.splitting.written.Goals as goal
 
 pub push_batch-requires-clause-within : goal.push_batch-requires-clause-within
