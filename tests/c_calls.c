@@ -563,11 +563,11 @@ static int once(int call) {
         answer = slotroute_redirect(BYTES("MOVED 1 a-host-of-more-than-sixteen-bytes:1"), BYTES("n1"), out,
                                     sizeof out, &redirected);
         break;
-    case 7: /* redis_batch_bytes::split_pipeline redis_batches::meaning_of redis_batches::places_by_number */
+    case 7: /* redis_batch_bytes::split_pipeline */
         answer = slotroute_split_pipeline(BYTES(PIPELINE), NULL, 0, halves, SLOTROUTE_SLOTS, slots, 8, counts,
                                           8, ends, 8, places, 8, parts, 8, out, sizeof out, &told);
         break;
-    case 8: /* redis_batch_bytes::combine_pipeline redis_batches::no_answers redis_batches::reply_of */
+    case 8: /* redis_batch_bytes::combine_pipeline */
         answer = slotroute_combine_pipeline(BYTES(PIPELINE), NULL, 0, halves, SLOTROUTE_SLOTS,
                                             BYTES("-ERR no\r\n*1\r\n$1\r\n1\r\n*1\r\n$-1\r\n"), out,
                                             sizeof out, &told);

@@ -1,18 +1,15 @@
-//! Commands and pipelines that are driven over connections, which return what a row says.
-use crate::batches::answers::{Answers, replies_text};
+//! Commands that are driven over connections, which return what a row says.
 use cluster_map::{NodeAddress, SlotMap};
-use fixtures::{bad_row, cmd, cmds, cut, numbers, push_shown, reply_text, two, values};
-use redis_batches::{PipelineError, drive_pipeline};
+use fixtures::{bad_row, cmd, cut, numbers, push_shown, reply_text, two, values};
 use redis_cluster::routing::{ReadOnlyNames, Registry};
 use resp_core::{Cmd, ErrorKind, RedisError, RedisResult, Value};
 use std::alloc::Global;
-use wire::{Any, BatchClient, BatchTransport, Logged, SendError, Transport, WireNodes, drive_over};
+use wire::{Any, Logged, SendError, Transport, WireNodes, drive_over};
 
 /// Connections that return these values, the last one first, whatever is sent. In place of a simple
 /// string the reply is lost, and in place of `+refused` the node refuses. They have no contract.
 #[derive(Drop)]
 struct Script {
-    alloc: Global,
     values: Vec<Value>,
     /// How often something was sent.
     sent: usize,
@@ -42,28 +39,12 @@ impl Transport for Script {
     }
 }
 
-impl BatchTransport for Script {
-    fn exchange(&mut self, _node: &NodeAddress, batch: &[&Cmd]) -> Result<Answers, SendError> {
-        let mut answers = Vec::new(self.alloc);
-        for _ in 0..batch.len() {
-            let Some(value) = self.values.pop() else {
-                return Err(SendError::Refused(error("no value")));
-            };
-            if answers.push(Ok(outcome(value)?)).is_err() {
-                return Err(SendError::Memory);
-            }
-        }
-        Ok(answers)
-    }
-}
-
 /// What a call of this name returns over a map.
 pub fn call(map: &SlotMap, alloc: Global, name: &str, words: &str) -> RedisResult<String> {
     let (values, words) = cut(words, "; ");
     let script = script_of(alloc, values)?;
     match name {
         "command" => command(alloc, map, script, words),
-        "pipeline" => pipeline(alloc, map, script, words),
         _ => Err(bad_row("no call of this name")),
     }
 }
@@ -71,11 +52,7 @@ pub fn call(map: &SlotMap, alloc: Global, name: &str, words: &str) -> RedisResul
 fn script_of(alloc: Global, text: &str) -> RedisResult<Script> {
     let mut values = values(alloc, text)?;
     values.reverse();
-    Ok(Script {
-        alloc,
-        values,
-        sent: 0,
-    })
+    Ok(Script { values, sent: 0 })
 }
 
 /// The outcome of a command over connections.
@@ -94,27 +71,4 @@ fn command(alloc: Global, map: &SlotMap, mut script: Script, words: &str) -> Red
     let mut text = driven(alloc, map, &mut script, words)?;
     push_shown(alloc, &mut text, ", sent ", &script.sent)?;
     Ok(text)
-}
-
-fn driven_pipeline(
-    alloc: Global,
-    map: &SlotMap,
-    script: Script,
-    commands: &[Cmd],
-    order: &[usize],
-) -> Result<Answers, PipelineError> {
-    let names = ReadOnlyNames::new(alloc);
-    let mut nodes = BatchClient::over(script, Registry::new(alloc));
-    drive_pipeline(alloc, commands, &names, map, None, order, &mut nodes)
-}
-
-/// The replies to a pipeline.
-fn pipeline(alloc: Global, map: &SlotMap, script: Script, words: &str) -> RedisResult<String> {
-    let (order, commands) = two(words);
-    let order = numbers(alloc, order)?;
-    let commands = cmds(alloc, commands)?;
-    replies_text(
-        alloc,
-        &driven_pipeline(alloc, map, script, &commands, &order),
-    )
 }

@@ -1,7 +1,6 @@
 //! What was sent, as rows write it: a semicolon and a space apart, each time the node and the words
 //! of the command, and after them that the node refused or where it redirected.
 use fixtures::{bytes_or_none, push, push_next, shown};
-use memory_batches::BatchEntry;
 use memory_nodes::TraceEntry;
 use resp_core::RedisResult;
 use std::alloc::Global;
@@ -38,26 +37,6 @@ pub fn trace_text(alloc: Global, trace: &[TraceEntry]) -> RedisResult<String> {
     let mut text = String::new(alloc);
     for entry in trace {
         push_next(&mut text, "; ", &entry_text(alloc, entry)?)?;
-    }
-    Ok(text)
-}
-
-fn batch_entry_text(alloc: Global, entry: &BatchEntry) -> RedisResult<String> {
-    let mut text = shown(alloc, &entry.node)?;
-    for word in entry.command.args() {
-        push_word(alloc, &mut text, word)?;
-    }
-    if entry.refusal.is_some() {
-        push(&mut text, " refused")?;
-    }
-    Ok(text)
-}
-
-/// The commands of batches.
-pub fn batches_text(alloc: Global, trace: &[BatchEntry]) -> RedisResult<String> {
-    let mut text = String::new(alloc);
-    for entry in trace {
-        push_next(&mut text, "; ", &batch_entry_text(alloc, entry)?)?;
     }
     Ok(text)
 }

@@ -3,9 +3,8 @@ ghost use Rattle.redis_cluster.specs.Orders.{NamesOnce};
 
 use std::alloc::{AllocError, Global};
 
-/// Whether an order names each number below `count` once, and no other, as `drive` asks it of routes
-/// and `drive_pipeline` of batches. For 3 that is `[2, 0, 1]`, say; `[2, 0]`, `[0, 0, 1]` and
-/// `[1, 2, 3]` do not pass.
+/// Whether an order names each number below `count` once, and no other, as `drive` asks it of routes.
+/// For 3 that is `[2, 0, 1]`, say; `[2, 0]`, `[0, 0, 1]` and `[1, 2, 3]` do not pass.
 ///
 /// # Errors
 ///

@@ -2,8 +2,6 @@
 #![tactic(auto)]
 
 pub mod batched_bytes;
-pub mod batched_client;
-pub mod batched_pipelines;
 pub mod batcher;
 pub mod bytes;
 pub mod client;

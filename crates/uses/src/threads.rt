@@ -5,7 +5,6 @@ use cluster_map::{
     ReplicasOnlyCandidates, Route, Shard, Slot, SlotAddr, SlotAddrs, SlotMap, SlotRange,
     SlotRangeMap,
 };
-use redis_batches::{PipelineError, PipelineFault, PipelinePlan, Stopped};
 use redis_cluster::driver::{DriveError, DriveFault, PlanFault, Retry, SendError, SplitPlan};
 use redis_cluster::pipeline::ClusterPipeline;
 use redis_cluster::routing::{
@@ -57,8 +56,4 @@ pub fn types_that_threads_share() {
     is_shared::<DriveFault>();
     is_shared::<DriveError>();
     is_shared::<ClusterPipeline>();
-    is_shared::<PipelinePlan<'_>>();
-    is_shared::<PipelineFault>();
-    is_shared::<PipelineError>();
-    is_shared::<Stopped>();
 }

@@ -1,6 +1,5 @@
 pub mod Replaying
 pub mod CommandReplaying
-pub mod BatchReplaying
 pub mod Beside
 pub mod AnsweredSends
 pub mod Amid

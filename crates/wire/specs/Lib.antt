@@ -1,7 +1,6 @@
 pub mod Said
 pub mod Replay
 pub mod Commands
-pub mod Batches
 pub mod Logged
 pub mod Held
 pub mod Beside

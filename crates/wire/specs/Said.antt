@@ -1,5 +1,4 @@
--- What was sent to a node, and what came back. `S` is what is sent and `V` the reply to it: the words
--- of one command and its reply, or those of a batch and the list of its answers.
+-- What was sent to a node, and what came back. `S` is what is sent and `V` the reply to it.
 use Rattle.std.specs.Prelude.{◌≡◌, List, [], ◌∷◌, ◌++◌}
 use Rattle.resp_core.specs.ErrorParts.{ErrorParts}
 use Rattle.cluster_slots.specs.Address.{Address}

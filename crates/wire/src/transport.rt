@@ -1,12 +1,11 @@
-ghost use Rattle.std.specs.Prelude.{ℕ, List, Result, map};
+ghost use Rattle.std.specs.Prelude.{ℕ, List, Result};
 ghost use Rattle.cluster_slots.specs.Address.{Address};
 ghost use Rattle.resp_core.specs.declared.value.Value.{Value as Held};
 ghost use Rattle.redis_cluster.specs.declared.nodes.SendError.{SendError as Unsent};
-ghost use Rattle.redis_batches.specs.Taken.{Came};
 
 use cluster_slots::NodeAddress;
 use redis_cluster::driver::SendError;
-use resp_core::{Cmd, RedisError, Value};
+use resp_core::{Cmd, Value};
 
 /// What moves a command to a node and a value back. Nothing has to be said of it.
 pub trait Transport {
@@ -31,40 +30,5 @@ impl<T: Transport> Transport for &mut T {
 
     fn exchange(&mut self, node: &NodeAddress, cmd: &Cmd) -> Result<Value, SendError> {
         (**self).exchange(node, cmd)
-    }
-}
-
-/// What moves a batch to a node and its answers back. Nothing has to be said of it.
-pub trait BatchTransport {
-    /// What one exchange may do: the transport before, the node, the batch, what came back, and the
-    /// transport after. No transport has to say it.
-    ghost went: { Self → Address → List (List (List ℕ)) → Came → Self → Type 0 } = { λ _ _ _ _ _. Unit {0} };
-
-    /// Sends a batch of commands to a node once, and waits for the answers: one for each command, in
-    /// their order, each a value or the error that the node wrote.
-    ///
-    /// # Errors
-    ///
-    /// `Refused` if nothing was written, as to a node that can't be reached. `Redirected` if
-    /// nothing was written and the client is to go elsewhere. `Lost` if answers are missing, as
-    /// if time ran out: any of the commands may have run. `Memory` if nothing was sent.
-    fn exchange(
-        &mut self,
-        node: &NodeAddress,
-        batch: &[&Cmd],
-    ) -> Result<Vec<Result<Value, RedisError>>, SendError>
-        ensures went { went self.old node.now (map (λ cmd. cmd.now) batch.now) result self.new };
-}
-
-impl<T: BatchTransport> BatchTransport for &mut T {
-    // what the borrowed transport says of itself
-    ghost went = { λ old node commands came new. T.went old.now node commands came new.now };
-
-    fn exchange(
-        &mut self,
-        node: &NodeAddress,
-        batch: &[&Cmd],
-    ) -> Result<Vec<Result<Value, RedisError>>, SendError> {
-        (**self).exchange(node, batch)
     }
 }

@@ -1,9 +1,0 @@
-pub mod Shelves
-pub mod Verbs
-pub mod Batches
-pub mod Broken
-pub mod Stores
-pub mod Traces
-pub mod Effects
-pub mod IntTexts
-pub mod OwnErrors

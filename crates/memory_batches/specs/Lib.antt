@@ -1,3 +1,0 @@
-pub mod Strings
-pub mod Nodes
-pub mod Meaning
