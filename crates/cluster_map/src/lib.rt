@@ -19,6 +19,6 @@ pub use read_routing::{
     AnyNodeCandidates, ClusterTopology, DefaultFactory, ReadCandidates, ReadRoutingStrategy,
     ReadRoutingStrategyFactory, Replicas, ReplicasOnlyCandidates, Shard,
 };
-pub use slot_map::{SlotAddrs, SlotMap, SlotRange, number_nodes, number_nodes_counting};
+pub use slot_map::{SlotAddrs, SlotMap, SlotRange, number_nodes_counting};
 pub use slot_range_map::SlotRangeMap;
 pub use topology::{parse_slots, slot_cmd};

@@ -35,7 +35,7 @@ mod primaries;
 
 pub use crate::slot_range::SlotRange;
 pub use addresses::NodeAddresses;
-pub use node_set::{number_nodes, number_nodes_counting};
+pub use node_set::number_nodes_counting;
 
 /// The most ranges whose primaries are compared one by one. More are found by a set.
 const FEW_RANGES: usize = 16;

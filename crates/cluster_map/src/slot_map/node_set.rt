@@ -20,7 +20,7 @@ mod numbering;
 mod source;
 
 pub(crate) use numbering::index_in;
-pub use numbering::{number_nodes, number_nodes_counting};
+pub use numbering::number_nodes_counting;
 pub(crate) use source::Source;
 
 /// How often look-ups may compare nodes in vain before the quick hash counts as slow.

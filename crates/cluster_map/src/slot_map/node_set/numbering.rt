@@ -16,22 +16,9 @@ const SHORT: usize = 32;
 /// These nodes, each once by first appearance, and for each given node its number among them. Of
 /// the nodes `n2`, `n1`, `n2` these are `n2` and `n1`, and 0, 1, 0.
 ///
-/// # Errors
-///
-/// If memory runs out.
-pub fn number_nodes<'a>(
-    alloc: Global,
-    nodes: &[&'a NodeAddress],
-) -> Result<(Vec<&'a NodeAddress>, Vec<usize>), AllocError>
-    ensures numbered { IfOk result (λ found. AreNumbered (addresses_behind nodes.now)
-        (addresses_behind found.0.items) found.1.items) }
-{
-    number_nodes_counting(alloc, nodes, &Cell::new(0))
-}
-
-/// `number_nodes`, which adds to `misses` how many nodes it compares in vain when more than a few
-/// nodes of a long list differ: at most some 16 and one for each 16 nodes, also if the hosts are
-/// picked, as far as SipHash spreads them.
+/// Adds to `misses` how many nodes it compares in vain when more than a few nodes of a long list
+/// differ: at most some 16 and one for each 16 nodes, also if the hosts are picked, as far as SipHash
+/// spreads them.
 ///
 /// # Errors
 ///
