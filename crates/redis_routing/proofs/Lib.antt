@@ -2,6 +2,7 @@ pub mod Agree
 pub mod Arguments
 pub mod CommandNames
 pub mod CommandSlots
+pub mod Ends
 pub mod NameSets
 pub mod NameSpots
 pub mod Placed

@@ -1,13 +1,43 @@
 ghost use Rattle.std.specs.Prelude.{◌≡◌, ◌<◌, map, true, length};
+ghost use Rattle.std.specs.Str.{bytes_eq};
 ghost use Rattle.redis_routing.specs.Lookup.{lookup_name, has_name, ascends};
 ghost use Rattle.redis_routing.specs.Places.{name_hash, word_hash, row_of, stand_at_their_rows, value_at};
 
 /// What stands beside the name in this row of a table, if the row has the name.
+#[inline(always)]
 pub(super) fn value_at<V: Copy>(rows: &[(&[u8], V)], row: usize, name: &[u8]) -> Option<V>
     ensures { result ≡ value_at (map (λ row. (row.0.now, row.1)) rows.now) row name.now }
 {
     let (known, value) = rows.get(row)?;
-    if *known == name { Some(*value) } else { None }
+    if are_same(known, name) {
+        Some(*value)
+    } else {
+        None
+    }
+}
+
+/// Whether two names have the same bytes. Most have four to eight, of which the first four and the last
+/// four are all.
+#[inline(always)]
+fn are_same(known: &[u8], name: &[u8]) -> bool
+    ensures { result ≡ bytes_eq known.now name.now }
+{
+    let len = known.len();
+    if name.len() != len {
+        return false;
+    }
+    if len < 4 || 8 < len {
+        return are_equal(known, name);
+    }
+    name.starts_with(&known[..4]) && name.ends_with(&known[len - 4..])
+}
+
+/// Whether two names have the same bytes. It is not inlined, so that its callers stay small.
+#[inline(never)]
+fn are_equal(known: &[u8], name: &[u8]) -> bool
+    ensures { result ≡ bytes_eq known.now name.now }
+{
+    known == name
 }
 
 /// Whether the word is one of these first words, which stand at their places.

@@ -73,24 +73,32 @@ fn in_tables(name: &[u8]) -> Option<(RouteBy, Option<ResponsePolicy>)>
     in_t_to_z(row - 128, name)
 }
 
+/// What this row has for a name, of the rows of names that begin with A to C.
+#[inline(always)]
 fn in_a_to_c(row: usize, name: &[u8]) -> Option<(RouteBy, Option<ResponsePolicy>)>
     ensures { result ≡ value_at (map (λ row. (row.0.now, row.1)) NAMES_A_TO_C) row name.now }
 {
     value_at(&NAMES_A_TO_C, row, name)
 }
 
+/// What this row has for a name, of the rows of names that begin with D to L.
+#[inline(always)]
 fn in_d_to_l(row: usize, name: &[u8]) -> Option<(RouteBy, Option<ResponsePolicy>)>
     ensures { result ≡ value_at (map (λ row. (row.0.now, row.1)) NAMES_D_TO_L) row name.now }
 {
     value_at(&NAMES_D_TO_L, row, name)
 }
 
+/// What this row has for a name, of the rows of names that begin with M to S.
+#[inline(always)]
 fn in_m_to_s(row: usize, name: &[u8]) -> Option<(RouteBy, Option<ResponsePolicy>)>
     ensures { result ≡ value_at (map (λ row. (row.0.now, row.1)) NAMES_M_TO_S) row name.now }
 {
     value_at(&NAMES_M_TO_S, row, name)
 }
 
+/// What this row has for a name, of the rows of names that begin with T to Z.
+#[inline(always)]
 fn in_t_to_z(row: usize, name: &[u8]) -> Option<(RouteBy, Option<ResponsePolicy>)>
     ensures { result ≡ value_at (map (λ row. (row.0.now, row.1)) NAMES_T_TO_Z) row name.now }
 {
