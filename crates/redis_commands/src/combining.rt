@@ -31,7 +31,8 @@ use std::alloc::{AllocError, Global};
 ///
 /// An error of a node, as above. `Client` if an answer is missing. `UnexpectedReturnType` if the
 /// values do not fit the policy, or if the first value is wanted and no node has answered. So it is
-/// for a map of addresses, unless there are as many nodes as answers. `OutOfMemory` if memory ran out. The first three policies take no memory.
+/// for a map of addresses, unless there are as many nodes as answers. `OutOfMemory` if memory ran
+/// out. The first three policies take no memory.
 pub fn combine_answers(
     alloc: Global,
     policy: Option<ResponsePolicy>,

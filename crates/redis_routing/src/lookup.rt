@@ -16,8 +16,8 @@ pub(super) fn value_at<V: Copy>(rows: &[(&[u8], V)], row: usize, name: &[u8]) ->
     }
 }
 
-/// Whether two names have the same bytes. Most have four to eight, of which the first four and the last
-/// four are all.
+/// Whether two names have the same bytes. Most have four to eight, of which the first four and the
+/// last four are all.
 #[inline(always)]
 fn are_same(known: &[u8], name: &[u8]) -> bool
     ensures { result ≡ bytes_eq known.now name.now }
