@@ -61,11 +61,20 @@ sum_set q e n (p ∷ ps) zero l h = rw (sym h, sum_at-append q ps ((e.0, n) ∷ 
 sum_set q e n (p ∷ ps) (suc i) l h = ap (λ o. cond (bytes_eq p.0 q) (Some (p.1 +ℤ or_zero o)) o) (sum_set q e n ps i (omega (arith, l)) h)
 
 pub total_set : (es : List KeyNumber) (i : ℕ) (e : KeyNumber) (key : List ℕ) (n : ℤ) → i < length es → e ≡ get_or es i e → bytes_eq e.0 key ≡ true → (q : List ℕ) → total_at q (set es i (e.0, e.1 +ℤ n)) ≡ total_at q (es ++ (key, n) ∷ [])
-total_set es i e key n l got same q = grind (arith, sum_at_is q (set es i (e.0, e.1 +ℤ n)), sum_at_is q (es ++ (key, n) ∷ []), sum_set q e n es i l got, bytes_eq-Decides)
+total_set es i e key n l got same q =
+    sym (sum_at_is q (set es i (e.0, e.1 +ℤ n)))
+    ∙ sum_set q e n es i l got
+    ∙ ap (λ k. sum_at q (es ++ (k, n) ∷ [])) ((bytes_eq-Decides e.0 key).0 same)
+    ∙ sum_at_is q (es ++ (key, n) ∷ [])
 
 -- totals that are the same stay so with more pairs after them
 pub total_before : (q : List ℕ) (es fs ps : List KeyNumber) → total_at q es ≡ total_at q fs → total_at q (es ++ ps) ≡ total_at q (fs ++ ps)
-total_before q es fs ps h = grind (arith, sum_at_is q es, sum_at_is q fs, sum_at_is q (es ++ ps), sum_at_is q (fs ++ ps), sum_at-append)
+total_before q es fs ps h =
+    sym (sum_at_is q (es ++ ps))
+    ∙ sum_at-append q es ps
+    ∙ ap (λ o. sum_of_totals o (sum_at q ps)) (sum_at_is q es ∙ h ∙ sym (sum_at_is q fs))
+    ∙ sym (sum_at-append q fs ps)
+    ∙ sum_at_is q (fs ++ ps)
 
 pub none_there : (o : Option (List KeyNumber)) → ((q : List ℕ) → None ≡ option_map (total_at q) o) → None ≡ o
 none_there o h = let none = h [] in grind (arith, common_steps)

@@ -62,10 +62,18 @@ part_kept t d u e = omega (arith, ints)
 
 total_parts : (q : List ℕ) (ps : List KeyNumber) → or_zero (sum_at q ps) +ℤ pos (sum_by (downs q) ps) ≡ pos (sum_by (ups q) ps)
 total_parts q [] = refl
-total_parts q (p ∷ ps) = grind (arith, common_steps, sum_by-cons, part_step, part_kept, total_parts q ps)
+total_parts q (p ∷ ps) = rw (sum_by-cons (downs q) p ps, sum_by-cons (ups q) p ps) (by_key (bytes_eq p.0 q) (total_parts q ps))
+  where
+    by_key : (b : Bool) → or_zero (sum_at q ps) +ℤ pos (sum_by (downs q) ps) ≡ pos (sum_by (ups q) ps)
+        → or_zero (cond b (Some (p.1 +ℤ or_zero (sum_at q ps))) (sum_at q ps)) +ℤ pos (cond b (down p.1) 0 + sum_by (downs q) ps) ≡ pos (cond b (up p.1) 0 + sum_by (ups q) ps)
+    by_key true e = part_step p.1 (or_zero (sum_at q ps)) (sum_by (downs q) ps) (sum_by (ups q) ps) e
+    by_key false e = part_kept (or_zero (sum_at q ps)) (sum_by (downs q) ps) (sum_by (ups q) ps) e
 
 same_option : (a b : Option ℤ) → is_some a ≡ is_some b → or_zero a ≡ or_zero b → a ≡ b
-same_option a b h1 h2 = grind (arith)
+same_option None None h1 h2 = refl
+same_option None (Some b) h1 h2 = absurd (cc)
+same_option (Some a) None h1 h2 = absurd (cc)
+same_option (Some a) (Some b) h1 h2 = ap Some h2
 
 from_parts : (s t : ℤ) (d u e v : ℕ) → s +ℤ pos d ≡ pos u → t +ℤ pos e ≡ pos v → d ≡ e → u ≡ v → s ≡ t
 from_parts s t d u e v p q h k = omega (arith, ints)
@@ -83,7 +91,11 @@ total_same q rs others h =
 
 -- the same of pairs
 pub sum_permuted : (q : List ℕ) (ps qs : List KeyNumber) → IsPermutation ps qs → sum_at q qs ≡ sum_at q ps
-sum_permuted q ps qs h = grind (arith, common_steps, same_option, sum_has q qs, sum_has q ps, list_any-IsPermutation, from_parts (or_zero (sum_at q qs)) (or_zero (sum_at q ps)) (sum_by (downs q) qs) (sum_by (ups q) qs) (sum_by (downs q) ps) (sum_by (ups q) ps) (total_parts q qs) (total_parts q ps), total_parts q qs, total_parts q ps, sum_by-IsPermutation (downs q) ps qs h, sum_by-IsPermutation (ups q) ps qs h)
+sum_permuted q ps qs h =
+    let t : (List ℕ × ℤ) → Bool = λ p. bytes_eq p.0 q in
+    let has : is_some (sum_at q qs) ≡ is_some (sum_at q ps) = sum_has q qs ∙ sym (list_any-IsPermutation t ps qs h) ∙ sym (sum_has q ps) in
+    same_option (sum_at q qs) (sum_at q ps) has
+    (from_parts (or_zero (sum_at q qs)) (or_zero (sum_at q ps)) (sum_by (downs q) qs) (sum_by (ups q) qs) (sum_by (downs q) ps) (sum_by (ups q) ps) (total_parts q qs) (total_parts q ps) (sum_by-IsPermutation (downs q) ps qs h) (sum_by-IsPermutation (ups q) ps qs h))
 
 abbrev pair_count : Reply → ℕ
 pair_count r = length (pairs_of_reply r)
