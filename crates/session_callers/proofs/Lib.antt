@@ -1,0 +1,4 @@
+pub mod OwedReplies
+pub mod IdleCallers
+pub mod CallerMaps
+pub mod GivenUp
