@@ -1,0 +1,10 @@
+pub mod Parts
+pub mod Goes
+pub mod Asks
+pub mod Tied
+pub mod Links
+pub mod GiveUps
+pub mod Begins
+pub mod Leaves
+pub mod Owed
+pub mod Reached
