@@ -1,0 +1,55 @@
+-- Calls are forgotten.
+use Rattle.std.proofs.Common.{◌≡◌, ◌<◌, ◌+◌, ◌-◌, ℕ, suc, List, [], ◌∷◌, length, length-drop, drop, Some, refl, sym, ap, ◌∙◌, subst, arith}
+use Rattle.std.specs.List.{slice_get}
+use Rattle.session_core.specs.State.{State, CallState, Trim, left_call, Happens}
+use Rattle.session_core.proofs.PlaceLists.{get_first_dropped}
+use Rattle.session_callers.specs.declared.caller.CallPlaces.{CallPlaces}
+use Rattle.session_callers.specs.declared.callers.Callers.{Callers}
+use Rattle.session_callers.specs.Callers.{order_of, replies_of}
+use Rattle.session_ties.specs.Ties.{AreTied, AreOwed}
+use Rattle.session_ties.proofs.Leaves.{tied_trimmed}
+use Rattle.session_ties.proofs.Owed.{same_owed, owed_kept}
+use Rattle.session_ties.proofs.Reached.{reached_after}
+use Rattle.redis_session.specs.Kept.{IsKept}
+use Rattle.redis_session.proofs.Keeping.{state_of}
+
+front_is : (calls : List CallState) (front : CallState) → slice_get calls 0 ≡ Some front → front ≡ left_call → (more : List CallState) × (calls ≡ left_call ∷ more)
+front_is [] front e left = absurd (cc)
+front_is (c ∷ calls) front e left = let same : c ≡ front = cc in (calls, ap (λ x. x ∷ calls) (same ∙ left))
+
+pub trim_happens : (s now : State) (front : CallState) (first : ℕ) (calls : List CallState) → s ≡ now → slice_get s.calls 0 ≡ Some front → front ≡ left_call → first ≡ s.first + 1 → calls ≡ drop 1 s.calls → Happens now Trim (state_of s.links first calls)
+trim_happens s now front first calls e is left next rest = subst (λ t. Happens t Trim (state_of s.links first calls)) e (record {
+  may = front_is s.calls front is left;
+  is = ap (λ n. state_of s.links n calls) next ∙ ap (state_of s.links (s.first + 1)) rest;
+})
+
+pub trim_kept : {places : List CallPlaces} {callers : Callers} {began : ℕ} (s : State) (front : CallState) (first : ℕ) (calls : List CallState) (less : List CallPlaces) → IsKept s places callers began → slice_get s.calls 0 ≡ Some front → front ≡ left_call → first ≡ s.first + 1 → calls ≡ drop 1 s.calls → less ≡ drop 1 places
+    → IsKept (state_of s.links first calls) less callers began
+trim_kept {places = places} {callers = callers} {began = began} s front first calls less k is left next rest fewer =
+    let h = trim_happens s s front first calls refl is left next rest in
+    let may = front_is s.calls front is left in
+    let some : length s.calls ≡ suc (length may.0) = ap length may.1 in
+    let many : length calls ≡ length s.calls - 1 = ap length rest ∙ (let n : length (drop 1 s.calls) ≡ length s.calls - 1 = omega (arith, length-drop 1 s.calls) in n) in
+    let both : length less ≡ length places - 1 = ap length fewer ∙ (let n : length (drop 1 places) ≡ length places - 1 = omega (arith, length-drop 1 places) in n) in
+    record {
+      order_places = k.order_places;
+      reply_places = k.reply_places;
+      count = omega (arith, many, both, k.count);
+      at = λ i p e.
+          let old : slice_get places (suc i) ≡ Some p = sym (get_first_dropped places i) ∙ ap (λ (ps : List CallPlaces). slice_get ps i) (sym fewer) ∙ e in
+          let stood = k.at (suc i) p old in
+          let n : first + i ≡ s.first + suc i = omega (arith, next) in
+          (ap k.order_places n ∙ stood.0, ap k.reply_places n ∙ stood.1);
+      reached = reached_after s (state_of s.links first calls) Trim k.reached h;
+      tied = subst (λ t. AreTied t k.order_places (λ c. order_of c callers)) (sym h.is) (tied_trimmed (λ c. order_of c callers) k.tied h.may (λ c. refl));
+      owed = subst (λ t. AreOwed t k.reply_places (λ c. replies_of c callers)) (sym h.is)
+          (owed_kept Trim (λ c. replies_of c callers) k.owed h.may refl (λ c n held. refl) (same_owed (λ c. replies_of c callers) (λ c. replies_of c callers) (λ c. refl)));
+      short = k.short;
+      fits = omega (arith, next, many, some, k.fits);
+    }
+
+pub trim_room : {places : List CallPlaces} {callers : Callers} {began : ℕ} (s : State) (front : CallState) → IsKept s places callers began → slice_get s.calls 0 ≡ Some front → front ≡ left_call → s.first + 1 < 18446744073709551616
+trim_room s front k is left =
+    let may = front_is s.calls front is left in
+    let some : length s.calls ≡ suc (length may.0) = ap length may.1 in
+    omega (arith, some, k.fits)

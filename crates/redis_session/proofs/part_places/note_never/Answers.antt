@@ -1,0 +1,9 @@
+use Rattle.std.proofs.Common.{sym, subst}
+use Rattle.session_core.specs.Order.{Order, IsWaiting}
+use Rattle.session_callers.specs.Callers.{order_of}
+use Rattle.session_ties.proofs.Goes.{waits_again}
+use Rattle.redis_session.proofs.part_places.note_never.Goals as goal
+
+pub note_unsent-requires : goal.note_unsent-requires
+note_unsent-requires c =
+    subst (λ (o : Order). IsWaiting c.args.place o) (sym c.note_refused.ensures.order) (waits_again c.args.place (order_of c.args.caller c.args.callers.now) c.requires)

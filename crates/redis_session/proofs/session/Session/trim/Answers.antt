@@ -1,0 +1,12 @@
+use Rattle.std.proofs.Common.{◌<◌, length, refl, arith}
+use Rattle.std.proofs.lemmas.Option.{slice_get_read}
+use Rattle.session_core.specs.State.{State}
+use Rattle.redis_session.proofs.Trimming.{trim_kept}
+use Rattle.redis_session.proofs.session.Session.trim.Goals as goal
+
+pub invariant_of-self : goal.invariant_of-self
+invariant_of-self c =
+    let s : State = record { links = c.self.inside.links; first = c.self.inside.first; calls = c.self.inside.calls.items } in
+    let some : 0 < length s.calls = omega (arith, c.in-Some.ensures.variant.0 refl) in
+    let there = slice_get_read s.calls (length s.calls) 0 c.in-Some.front.now refl some c.in-Some.ensures.lookup in
+    trim_kept s c.in-Some.front.now _ c.pop_front.new.self.items c.pop_front-2.new.self.items c.self.invariant there (c.is_left.ensures.left c.if-not-is_left.false) refl c.pop_front.ensures.rest c.pop_front-2.ensures.rest

@@ -1,0 +1,32 @@
+//! A session for clients of Redis Cluster. It touches no socket, thread or clock: bytes in, bytes out.
+//!
+//! [`Session`] keeps the links to nodes, the calls of many callers, and the order in which each caller's
+//! parts may be asked. Its user owns the sockets, the time and the map of slots:
+//!
+//! 1. It calls [`Session::open`] for a connection, and [`Session::begin`] for a command, as its parts.
+//! 2. It asks parts by [`Session::ask`], writes [`Session::unwritten`], and notes that by
+//!    [`Session::wrote`].
+//! 3. It passes what it reads to [`Session::hear`], and calls [`Session::take`] until that returns
+//!    [`Took::Nothing`]. A part that a node refused waits again, and is asked elsewhere or later.
+//! 4. When a connection ends, it calls [`Session::end`], and [`Session::lose`] until that returns `None`.
+//! 5. When a part is settled, it calls [`Session::end_overtaken`] for its slot.
+//! 6. It makes the reply of [`Session::next_call`] from the parts of [`Session::call`], and calls
+//!    [`Session::finish`]. It frees memory by [`Session::leave`] and [`Session::trim`].
+//!
+//! Each call that changes the session is one event of the machine in `session_core`, or it changes nothing
+//! and says so. So the laws of `session_core` hold of each program that uses a session.
+#![tactic(auto)]
+
+mod call;
+mod calls;
+mod links;
+mod part;
+mod part_places;
+mod session;
+mod telling;
+mod took;
+
+pub use call::Call;
+pub use part::{Part, Phase};
+pub use session::Session;
+pub use took::Took;
