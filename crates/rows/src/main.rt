@@ -14,6 +14,7 @@ mod plans;
 mod ranges;
 mod reads;
 mod routing;
+mod sessions;
 mod slots;
 
 use crate::calls::CallRows;
@@ -22,6 +23,7 @@ use crate::routing::{Known, combiners, pipelines};
 use cluster_map::SlotMap;
 use fixtures::{Calls, bad_row, debug, run};
 use redis_cluster::pipeline::{ClusterPipeline, cluster_pipe};
+use redis_session::Session;
 use resp_core::RedisResult;
 use session_core::Link;
 use std::alloc::Global;
@@ -36,6 +38,7 @@ struct Rows {
     link: Link,
     order: Order,
     calls: CallRows,
+    session: Session,
 }
 
 impl Rows {
@@ -61,6 +64,7 @@ impl Rows {
             "links" => links::call(&mut self.link, alloc, name, words),
             "order" => self.order.call(alloc, name, words),
             "calls" => self.calls.call(alloc, name, words),
+            "session" => sessions::call(&mut self.session, alloc, name, words),
             _ => Err(bad_row("no topic of this name")),
         }
     }
@@ -92,6 +96,7 @@ fn main(rt: HostRuntime) -> ExitCode {
         link: Link::new(alloc, 0),
         order: Order::new(alloc),
         calls: CallRows::new(alloc),
+        session: Session::new(alloc),
     };
     run(&rt, &mut rows)
 }
