@@ -322,7 +322,7 @@ impl Session {
         true
     }
 
-    /// A call, if it was not forgotten.
+    /// A call, if its number was not forgotten. A call that left has no parts, and caller 0.
     pub fn call(&self, call: u64) -> Option<&Call>
         ensures some { IfSome result (λ state. call_at call self.now ≡ Some state.now) }
         ensures none { IfNone result (call_at call self.now ≡ None) }
