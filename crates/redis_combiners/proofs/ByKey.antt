@@ -8,8 +8,8 @@ use Rattle.std.specs.Cmp.{IsStrictWeakOrder}
 use Rattle.std.specs.List.Sorted.{IsPermutation, IsSortedBy, IsSortedByKey}
 use Rattle.std.specs.Prelude.{option_map, option_and_then}
 use Rattle.std.specs.Str.{bytes_eq}
-use Rattle.std.proofs.lemmas.Grind.{common_steps}
 use Rattle.std.proofs.lemmas.Fn.{always_returns_same}
+use Rattle.std.proofs.lemmas.Int.{ints}
 use Rattle.std.proofs.lemmas.List.Sorted.{ranks_by}
 use Rattle.std.proofs.lemmas.Map.Text.{is_eq-slice_cmp}
 use Rattle.std.proofs.lemmas.List.{append_assoc}
@@ -44,14 +44,27 @@ less_from x y up apart = by (order x y) refl
     by Equal e = absurd (true≢false (ap is_eq (sym e) ∙ is_eq-slice_cmp x y ∙ nat_list_eq_equiv.symm x y ∙ apart))
     by Greater e = absurd (true≢false (ap is_lt (sym (nat_list_cmp_total.antisymm y x ∙ ap ordering_reverse e)) ∙ up))
 
+-- a number before two totals goes to the first
+before_totals : (b : Bool) (n : ℤ) (s t : Option ℤ) → cond b (Some (n +ℤ or_zero (sum_of_totals s t))) (sum_of_totals s t) ≡ sum_of_totals (cond b (Some (n +ℤ or_zero s)) s) t
+before_totals false n s t = refl
+before_totals true n None None = refl
+before_totals true n None (Some b) = ap Some (omega (arith, ints))
+before_totals true n (Some a) None = refl
+before_totals true n (Some a) (Some b) = ap Some (omega (arith, ints))
+
 -- the total of a key over two lists
 sum_at-append : (q : List ℕ) (ps qs : List KeyNumber) → sum_at q (ps ++ qs) ≡ sum_of_totals (sum_at q ps) (sum_at q qs)
 sum_at-append q [] qs = refl
-sum_at-append q (p ∷ ps) qs = grind (arith, common_steps, sum_at-append q ps qs)
+sum_at-append q (p ∷ ps) qs =
+    ap (λ o. cond (bytes_eq p.0 q) (Some (p.1 +ℤ or_zero o)) o) (sum_at-append q ps qs)
+    ∙ before_totals (bytes_eq p.0 q) p.1 (sum_at q ps) (sum_at q qs)
 
 -- a number more than a total, before others of the key or not
 one_more : (b : Bool) (t n : ℤ) (s : Option ℤ) → cond b (Some ((t +ℤ n) +ℤ or_zero s)) s ≡ cond b (Some (t +ℤ or_zero (sum_of_totals s (cond b (Some (n +ℤ pos 0)) None)))) (sum_of_totals s (cond b (Some (n +ℤ pos 0)) None))
-one_more b t n s = grind (arith, common_steps)
+one_more false t n None = refl
+one_more false t n (Some a) = refl
+one_more true t n None = ap Some (omega (arith, ints))
+one_more true t n (Some a) = ap Some (omega (arith, ints))
 
 -- a number added to a total
 
@@ -77,7 +90,8 @@ total_before q es fs ps h =
     ∙ sum_at_is q (fs ++ ps)
 
 pub none_there : (o : Option (List KeyNumber)) → ((q : List ℕ) → None ≡ option_map (total_at q) o) → None ≡ o
-none_there o h = let none = h [] in grind (arith, common_steps)
+none_there None h = refl
+none_there (Some ps) h = let none : None ≡ Some (total_at [] ps) = h [] in cc
 
 -- the totals so far with the pairs that are left, if there are such
 abbrev pub total_with : List ℕ → List KeyNumber → Option (List KeyNumber) → Option (Option ℤ)
