@@ -16,3 +16,12 @@ returns-in_ok-change-in-Write-clause-undo c kept =
 
 pub returns-in_ok-change-in-WriteAtPath-clause-undo : goal.returns-in_ok-change-in-WriteAtPath-clause-undo
 returns-in_ok-change-in-WriteAtPath-clause-undo c kept = grind (arith, common_steps, before-push)
+
+pub returns-in-Remove-clause-cells : goal.returns-in-Remove-clause-cells
+returns-in-Remove-clause-cells c = grind (arith, common_steps)
+
+pub returns-in_ok-change-in-Write-clause-cells : goal.returns-in_ok-change-in-Write-clause-cells
+returns-in_ok-change-in-Write-clause-cells c = grind (arith, common_steps)
+
+pub returns-in_ok-change-in-WriteAtPath-clause-cells : goal.returns-in_ok-change-in-WriteAtPath-clause-cells
+returns-in_ok-change-in-WriteAtPath-clause-cells c = grind (arith, common_steps)

@@ -10,3 +10,12 @@ returns-in_default-clause-all c = grind (arith, common_steps)
 
 pub returns-in_default-clause-counts : goal.returns-in_default-clause-counts
 returns-in_default-clause-counts c = grind (arith, common_steps)
+
+pub returns-clause-all : goal.returns-clause-all
+returns-clause-all c = grind (arith, common_steps)
+
+pub returns-clause-counts : goal.returns-clause-counts
+returns-clause-counts c = grind (arith, common_steps)
+
+pub loop-list-init : goal.loop-list-init
+loop-list-init c = grind (arith, common_steps)

@@ -1,4 +1,5 @@
 use Rattle.std.proofs.Common.{◌≡◌, ◌<◌, ◌≤◌, ◌+◌, ◌*◌, ◌/◌, ap, sym, ◌∙◌, subst, Some, take, length, arith}
+use Rattle.std.proofs.lemmas.Grind.{common_steps}
 use Rattle.std.proofs.lemmas.List.{length-map}
 use Rattle.std.specs.List.{range_with_len}
 use Rattle.cluster_slots.specs.KeySlot.{key_slot}
@@ -57,3 +58,21 @@ returns g c =
     ap (λ o. o / c.width-width.result) c.requires.own ∙ ap (λ w. tuple_args_count c.args.pattern (length (present_arguments_after c.args.words args)) / w) c.width-width.ensures in
     c.loop-number.invariant.lists
     ∙ ap (lists_of_tuples c.args.nodes) (tuples_end c.args.pattern (present_arguments_after c.args.words args) c.loop-number.number (subst (λ n. n ≤ c.loop-number.number) count c.loop-number-test.false))
+
+pub nonzero_div-count : goal.nonzero_div-count
+nonzero_div-count g c = grind (arith, common_steps)
+
+pub loop-number-init : goal.loop-number-init
+loop-number-init g c = grind (arith, common_steps)
+
+pub overflow_mul-place : goal.overflow_mul-place
+overflow_mul-place g c = grind (arith, common_steps)
+
+pub overflow_add-place : goal.overflow_add-place
+overflow_add-place g c = grind (arith, common_steps)
+
+pub add-requires-clause-fits : goal.add-requires-clause-fits
+add-requires-clause-fits g c = grind (arith, common_steps)
+
+pub add-requires-clause-slots : goal.add-requires-clause-slots
+add-requires-clause-slots g c = grind (arith, common_steps)
