@@ -10,12 +10,12 @@ use Rattle.session_core.specs.State.{State, CallState, On, numbered, call_after,
 use Rattle.session_core.proofs.AfterEvents.{length-numbered}
 use Rattle.session_core.proofs.Puts.{part_alone, part_after_asking}
 use Rattle.session_core.proofs.Waiting.{that_waits}
-use Rattle.session_callers.specs.declared.caller.CallPlaces.{CallPlaces}
-use Rattle.session_callers.specs.declared.callers.Callers.{Callers}
-use Rattle.session_callers.specs.Callers.{order_of}
-use Rattle.session_ties.specs.Ties.{is_ordered, status_of}
-use Rattle.session_ties.proofs.Asks.{asks_by_order, order_asks, free_asks}
-use Rattle.session_ties.proofs.Links.{IsAskOf, only_asked, asked_phase}
+use Rattle.redis_session.specs.declared.caller.CallPlaces.{CallPlaces}
+use Rattle.redis_session.specs.declared.callers.Callers.{Callers}
+use Rattle.redis_session.specs.Callers.{order_of}
+use Rattle.redis_session.specs.Ties.{is_ordered, status_of}
+use Rattle.redis_session.proofs.Ties.Asks.{asks_by_order, order_asks, free_asks}
+use Rattle.redis_session.proofs.Ties.Links.{IsAskOf, only_asked, asked_phase}
 use Rattle.redis_session.specs.Calls.{with_call, with_phase}
 use Rattle.redis_session.specs.Links.{HappensOn}
 use Rattle.redis_session.specs.Puts.{put_for}

@@ -12,14 +12,14 @@ use Rattle.session_core.specs.State.{State, CallState, Begin, begun, AreApart, M
 use Rattle.session_core.proofs.AfterEvents.{has_begun}
 use Rattle.session_core.proofs.OrderJoins.{length-waiting}
 use Rattle.session_core.proofs.PlaceLists.{get_pushed, get_pushed_last}
-use Rattle.session_callers.specs.declared.caller.CallPlaces.{CallPlaces}
-use Rattle.session_callers.specs.declared.callers.Callers.{Callers}
-use Rattle.session_callers.specs.Callers.{order_of, replies_of, OthersKept, CallsKept}
-use Rattle.session_ties.specs.Ties.{AreTied, AreOwed, AreOrdered, AreFree, is_ordered, end_of}
-use Rattle.session_ties.proofs.Tied.{tied_orders}
-use Rattle.session_ties.proofs.Begins.{orders_of, may_join, tied_began, tied_began_free}
-use Rattle.session_ties.proofs.Owed.{more_of, owed_began, owed_skipped}
-use Rattle.session_ties.proofs.Reached.{reached_after}
+use Rattle.redis_session.specs.declared.caller.CallPlaces.{CallPlaces}
+use Rattle.redis_session.specs.declared.callers.Callers.{Callers}
+use Rattle.redis_session.specs.Callers.{order_of, replies_of, OthersKept, CallsKept}
+use Rattle.redis_session.specs.Ties.{AreTied, AreOwed, AreOrdered, AreFree, is_ordered, end_of}
+use Rattle.redis_session.proofs.Ties.Tied.{tied_orders}
+use Rattle.redis_session.proofs.Ties.Begins.{orders_of, may_join, tied_began, tied_began_free}
+use Rattle.redis_session.proofs.Ties.Owed.{more_of, owed_began, owed_skipped}
+use Rattle.redis_session.proofs.Ties.Reached.{reached_after}
 use Rattle.redis_session.specs.Begun.{ordered_of}
 use Rattle.redis_session.specs.Kept.{IsKept}
 use Rattle.redis_session.proofs.Numbers.{other_number}

@@ -7,12 +7,12 @@ use Rattle.session_core.specs.Part.{PartState, phase_ended}
 use Rattle.session_core.specs.State.{State, CallState, End, numbered, call_after, link_after, MayEnd, Happens}
 use Rattle.session_core.proofs.AfterEvents.{length-numbered}
 use Rattle.session_core.proofs.Waiting.{part_is, that_waits}
-use Rattle.session_callers.specs.declared.caller.CallPlaces.{CallPlaces}
-use Rattle.session_callers.specs.declared.callers.Callers.{Callers}
-use Rattle.session_callers.specs.Callers.{order_of}
-use Rattle.session_ties.specs.Ties.{is_ordered, status_of}
-use Rattle.session_ties.proofs.Asks.{stands_waiting}
-use Rattle.session_ties.proofs.Links.{only_ended, ended_phase}
+use Rattle.redis_session.specs.declared.caller.CallPlaces.{CallPlaces}
+use Rattle.redis_session.specs.declared.callers.Callers.{Callers}
+use Rattle.redis_session.specs.Callers.{order_of}
+use Rattle.redis_session.specs.Ties.{is_ordered, status_of}
+use Rattle.redis_session.proofs.Ties.Asks.{stands_waiting}
+use Rattle.redis_session.proofs.Ties.Links.{only_ended, ended_phase}
 use Rattle.redis_session.specs.Calls.{with_call, with_phase}
 use Rattle.redis_session.specs.Waiting.{WaitsThere}
 use Rattle.redis_session.specs.Kept.{IsKept, IsPlace, PartGoes}

@@ -9,12 +9,12 @@ use Rattle.session_core.specs.Part.{is_waiting}
 use Rattle.session_core.specs.Replies.{without_place, IsOwed}
 use Rattle.session_core.specs.State.{State, CallState, Event, Finish, numbered, call_at, call_after, link_after, IsTurn, MayFinish, Happens}
 use Rattle.session_core.proofs.AfterEvents.{numbered_same, length-numbered}
-use Rattle.session_callers.specs.declared.caller.CallPlaces.{CallPlaces}
-use Rattle.session_callers.specs.declared.callers.Callers.{Callers}
-use Rattle.session_callers.specs.Callers.{order_of, replies_of, OthersKept}
-use Rattle.session_ties.specs.Ties.{end_of}
-use Rattle.session_ties.proofs.Links.{tied_quiet}
-use Rattle.session_ties.proofs.Owed.{IsHeld, among_at, turn_first, turn_none, turn_is_first, first_held, over_of, owed_finished}
+use Rattle.redis_session.specs.declared.caller.CallPlaces.{CallPlaces}
+use Rattle.redis_session.specs.declared.callers.Callers.{Callers}
+use Rattle.redis_session.specs.Callers.{order_of, replies_of, OthersKept}
+use Rattle.redis_session.specs.Ties.{end_of}
+use Rattle.redis_session.proofs.Ties.Links.{tied_quiet}
+use Rattle.redis_session.proofs.Ties.Owed.{IsHeld, among_at, turn_first, turn_none, turn_is_first, first_held, over_of, owed_finished}
 use Rattle.redis_session.specs.Calls.{with_call, replied}
 use Rattle.redis_session.specs.Kept.{IsKept}
 use Rattle.redis_session.proofs.CallChanges.{replied_calls}

@@ -12,12 +12,12 @@ use Rattle.session_core.specs.Replies.{Replies, without_place, IsOwed}
 use Rattle.session_core.specs.State.{State, CallState, GiveUp, begun, numbered, call_at, call_after, link_after, Has, Happens}
 use Rattle.session_core.proofs.AfterEvents.{seen, has_begun, length-numbered}
 use Rattle.session_core.proofs.PlaceLists.{at_index}
-use Rattle.session_callers.specs.declared.caller.CallPlaces.{CallPlaces}
-use Rattle.session_callers.specs.declared.callers.Callers.{Callers}
-use Rattle.session_callers.specs.Callers.{order_of, replies_of, OthersKept}
-use Rattle.session_ties.specs.Ties.{AreTied, OrderGoes, given_up, is_ordered, end_of}
-use Rattle.session_ties.proofs.GiveUps.{call_within, tied_given_up, gave_up_free, all_free}
-use Rattle.session_ties.proofs.Owed.{IsHeld, is_owed, over_of, owed_given_up}
+use Rattle.redis_session.specs.declared.caller.CallPlaces.{CallPlaces}
+use Rattle.redis_session.specs.declared.callers.Callers.{Callers}
+use Rattle.redis_session.specs.Callers.{order_of, replies_of, OthersKept}
+use Rattle.redis_session.specs.Ties.{AreTied, OrderGoes, given_up, is_ordered, end_of}
+use Rattle.redis_session.proofs.Ties.GiveUps.{call_within, tied_given_up, gave_up_free, all_free}
+use Rattle.redis_session.proofs.Ties.Owed.{IsHeld, is_owed, over_of, owed_given_up}
 use Rattle.redis_session.specs.Calls as calls
 use Rattle.redis_session.specs.Calls.{with_call}
 use Rattle.redis_session.specs.Kept.{IsKept, IsPlace, CallGoes}

@@ -15,15 +15,15 @@ use Rattle.session_core.specs.Part.{PartState}
 use Rattle.session_core.specs.State.{State, CallState, Event, Open, On, Forget, start, numbered, call_at, call_after, link_after, links_for, phase_after, unwants, Has, MayPut, Happens, after}
 use Rattle.session_core.proofs.AfterEvents.{call_is, not_forgotten, length-numbered, new_calls}
 use Rattle.session_core.proofs.PlaceLists.{at_index}
-use Rattle.session_callers.specs.declared.caller.CallPlaces.{CallPlaces}
-use Rattle.session_callers.specs.declared.callers.Callers.{Callers}
-use Rattle.session_callers.specs.Callers.{order_of, replies_of}
-use Rattle.session_ties.specs.Ties.{AreTied, AreOwed, OrderGoes, gets, is_ordered, status_of, end_of, IsSteady}
-use Rattle.session_ties.proofs.Tied.{IsOnly, steady_new, tied_part, tied_free, tied_start}
-use Rattle.session_ties.proofs.Links.{IsQuiet, tied_quiet, quiet_phase}
-use Rattle.session_ties.proofs.GiveUps.{call_within, part_within}
-use Rattle.session_ties.proofs.Owed.{same_owed, owed_kept, owed_start}
-use Rattle.session_ties.proofs.Reached.{reached_by, reached_start}
+use Rattle.redis_session.specs.declared.caller.CallPlaces.{CallPlaces}
+use Rattle.redis_session.specs.declared.callers.Callers.{Callers}
+use Rattle.redis_session.specs.Callers.{order_of, replies_of}
+use Rattle.redis_session.specs.Ties.{AreTied, AreOwed, OrderGoes, gets, is_ordered, status_of, end_of, IsSteady}
+use Rattle.redis_session.proofs.Ties.Tied.{IsOnly, steady_new, tied_part, tied_free, tied_start}
+use Rattle.redis_session.proofs.Ties.Links.{IsQuiet, tied_quiet, quiet_phase}
+use Rattle.redis_session.proofs.Ties.GiveUps.{call_within, part_within}
+use Rattle.redis_session.proofs.Ties.Owed.{same_owed, owed_kept, owed_start}
+use Rattle.redis_session.proofs.Ties.Reached.{reached_by, reached_start}
 use Rattle.redis_session.specs.Links.{HappensOn, Opens, Forgets}
 use Rattle.redis_session.specs.Kept.{IsKept, IsPlace, PartGoes}
 use Rattle.redis_session.proofs.CallChanges.{no_calls_change}

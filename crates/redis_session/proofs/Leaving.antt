@@ -8,12 +8,12 @@ use Rattle.session_core.specs.Order.{ordered_at}
 use Rattle.session_core.specs.Part.{is_done}
 use Rattle.session_core.specs.State.{State, CallState, Leave, numbered, call_at, call_after, link_after, left_call, IsTurn, MayLeave, Happens}
 use Rattle.session_core.proofs.AfterEvents.{length-numbered}
-use Rattle.session_callers.specs.declared.caller.CallPlaces.{CallPlaces}
-use Rattle.session_callers.specs.declared.callers.Callers.{Callers}
-use Rattle.session_callers.specs.Callers.{order_of, replies_of}
-use Rattle.session_ties.specs.Ties.{is_ordered}
-use Rattle.session_ties.proofs.Leaves.{IsPast, past_by_last, past_free, tied_left}
-use Rattle.session_ties.proofs.Owed.{turn_by, turn_above, same_owed, owed_kept}
+use Rattle.redis_session.specs.declared.caller.CallPlaces.{CallPlaces}
+use Rattle.redis_session.specs.declared.callers.Callers.{Callers}
+use Rattle.redis_session.specs.Callers.{order_of, replies_of}
+use Rattle.redis_session.specs.Ties.{is_ordered}
+use Rattle.redis_session.proofs.Ties.Leaves.{IsPast, past_by_last, past_free, tied_left}
+use Rattle.redis_session.proofs.Ties.Owed.{turn_by, turn_above, same_owed, owed_kept}
 use Rattle.redis_session.specs.Calls.{with_call}
 use Rattle.redis_session.specs.Kept.{IsKept, IsPlace}
 use Rattle.redis_session.proofs.CallChanges.{left_calls}

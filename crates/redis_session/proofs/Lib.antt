@@ -1,3 +1,8 @@
+pub mod Ties
+pub mod OwedReplies
+pub mod IdleCallers
+pub mod CallerMaps
+pub mod GivenUp
 pub mod Prefixes
 pub mod Outcomes
 pub mod Numbers

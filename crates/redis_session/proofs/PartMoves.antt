@@ -5,11 +5,10 @@ use Rattle.session_core.specs.declared.ordered_part.Status.{Status}
 use Rattle.session_core.specs.declared.ordered_part.Status.TheVariants.{Waits, Asked, Settled, Unsent}
 use Rattle.session_core.specs.declared.part.PartOrder.{PartOrder}
 use Rattle.session_core.specs.Order.{Order, MayAsk, IsWaiting, IsOnItsWay, with_status, trimmed}
-use Rattle.session_callers.specs.declared.callers.Callers.{Callers}
-use Rattle.session_callers.specs.Callers.{order_of, replies_of, OthersKept}
-use Rattle.session_ties.specs.Ties.{OrderGoes, gets, is_ordered}
-use Rattle.session_ties.proofs.Goes.{goes_to, goes_done, goes_refused}
-use Rattle.session_callers.specs.Changes as changes
+use Rattle.redis_session.specs.declared.callers.Callers.{Callers}
+use Rattle.redis_session.specs.Callers.{order_of, replies_of, OthersKept}
+use Rattle.redis_session.specs.Ties.{OrderGoes, gets, given_up, is_ordered}
+use Rattle.redis_session.proofs.Ties.Goes.{goes_to, goes_done, goes_refused}
 use Rattle.redis_session.specs.Kept.{PartGoes, CallGoes}
 
 pub part_goes : (caller place : ℕ) (order : PartOrder) (st : Status) (old new : Callers) → is_ordered order ≡ true → OrderGoes (gets place st) (order_of caller old) (order_of caller new)
@@ -49,10 +48,10 @@ goes_unsent place old new waits is = subst (λ (o : Order). OrderGoes (gets plac
 
 -- ---- a call that is given up
 
-pub call_goes : (caller place count : ℕ) (order : PartOrder) (old new : Callers) → is_ordered order ≡ true → changes.OrderGoes (changes.given_up place count) (order_of caller old) (order_of caller new)
+pub call_goes : (caller place count : ℕ) (order : PartOrder) (old new : Callers) → is_ordered order ≡ true → OrderGoes (given_up place count) (order_of caller old) (order_of caller new)
     → replies_of caller new ≡ replies_of caller old → OthersKept caller old new → CallGoes caller place count order old new
 call_goes caller place count order old new o goes replies kept = record {
-  ordered = λ _. record { end = goes.end; first = goes.first; gone = goes.gone; kept = goes.kept };
+  ordered = λ _. goes;
   free = λ f. absurd (false≢true (sym f ∙ o));
   others = kept.order;
   replies = λ other. elim (cases_eq other caller) [

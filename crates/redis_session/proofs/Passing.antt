@@ -10,10 +10,10 @@ use Rattle.session_core.specs.declared.ordered_part.Seat.{Seat}
 use Rattle.session_core.specs.Order.{Order, IsOvertaken, IsOf, NamesWaiting, ordered_at}
 use Rattle.session_core.specs.Part.{Phase, Waits, Asked, Answered, Lost, Refused, Unsent, PartState, have_slot, is_settled, is_waiting}
 use Rattle.session_core.specs.State.{State, CallState}
-use Rattle.session_ties.specs.Ties.{AreTied, is_ordered, status_of, ordered_part}
-use Rattle.session_ties.proofs.Parts.{waiting_undone, status_waiting}
+use Rattle.redis_session.specs.Ties.{AreTied, is_ordered, status_of, ordered_part}
+use Rattle.redis_session.proofs.Ties.Parts.{waiting_undone, status_waiting}
 use Rattle.std.specs.List.{slice_get}
-use Rattle.session_ties.proofs.Asks.{not_passed, stands_there, overtaken_part}
+use Rattle.redis_session.proofs.Ties.Asks.{not_passed, stands_there, overtaken_part}
 use Rattle.redis_session.specs.Waiting.{IsOvertakenOn}
 
 settled_status : (f : Phase) → is_settled f ≡ true → status_of f ≡ Settled

@@ -16,12 +16,12 @@ use Rattle.session_core.specs.Places.{changed}
 use Rattle.session_core.specs.State.{State, CallState, On, call_at, part_at, Has, Happens}
 use Rattle.session_core.proofs.AfterEvents.{seen, not_forgotten, length-numbered}
 use Rattle.session_core.proofs.Waiting.{first_there, on_its_way}
-use Rattle.session_callers.specs.declared.caller.CallPlaces.{CallPlaces}
-use Rattle.session_callers.specs.declared.callers.Callers.{Callers}
-use Rattle.session_callers.specs.Callers.{order_of}
-use Rattle.session_ties.specs.Ties.{status_of}
-use Rattle.session_ties.proofs.Links.{own_ticket, only_taken, only_lost, told_phase, lost_phase, stands_on}
-use Rattle.session_ties.proofs.Reached.{reached_single}
+use Rattle.redis_session.specs.declared.caller.CallPlaces.{CallPlaces}
+use Rattle.redis_session.specs.declared.callers.Callers.{Callers}
+use Rattle.redis_session.specs.Callers.{order_of}
+use Rattle.redis_session.specs.Ties.{status_of}
+use Rattle.redis_session.proofs.Ties.Links.{own_ticket, only_taken, only_lost, told_phase, lost_phase, stands_on}
+use Rattle.redis_session.proofs.Ties.Reached.{reached_single}
 use Rattle.redis_session.specs.Calls.{call_in, with_call, with_phase, with_told, with_lost, KeepsAt, ReturnsAt}
 use Rattle.redis_session.specs.Part.{Keeps}
 use Rattle.redis_session.specs.Links.{HappensOn}

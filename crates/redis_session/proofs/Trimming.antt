@@ -3,13 +3,13 @@ use Rattle.std.proofs.Common.{◌≡◌, ◌<◌, ◌+◌, ◌-◌, ℕ, suc, Li
 use Rattle.std.specs.List.{slice_get}
 use Rattle.session_core.specs.State.{State, CallState, Trim, left_call, Happens}
 use Rattle.session_core.proofs.PlaceLists.{get_first_dropped}
-use Rattle.session_callers.specs.declared.caller.CallPlaces.{CallPlaces}
-use Rattle.session_callers.specs.declared.callers.Callers.{Callers}
-use Rattle.session_callers.specs.Callers.{order_of, replies_of}
-use Rattle.session_ties.specs.Ties.{AreTied, AreOwed}
-use Rattle.session_ties.proofs.Leaves.{tied_trimmed}
-use Rattle.session_ties.proofs.Owed.{same_owed, owed_kept}
-use Rattle.session_ties.proofs.Reached.{reached_after}
+use Rattle.redis_session.specs.declared.caller.CallPlaces.{CallPlaces}
+use Rattle.redis_session.specs.declared.callers.Callers.{Callers}
+use Rattle.redis_session.specs.Callers.{order_of, replies_of}
+use Rattle.redis_session.specs.Ties.{AreTied, AreOwed}
+use Rattle.redis_session.proofs.Ties.Leaves.{tied_trimmed}
+use Rattle.redis_session.proofs.Ties.Owed.{same_owed, owed_kept}
+use Rattle.redis_session.proofs.Ties.Reached.{reached_after}
 use Rattle.redis_session.specs.Kept.{IsKept}
 use Rattle.redis_session.proofs.Keeping.{state_of}
 

@@ -7,10 +7,10 @@ use Rattle.session_core.specs.Order.{Order, IsOnItsWay}
 use Rattle.session_core.specs.Part.{PartState}
 use Rattle.session_core.specs.State.{State, CallState}
 use Rattle.redis_session.specs.Calls.{call_in}
-use Rattle.session_ties.specs.Ties.{AreTied, AreOwed, IsReached, OrderGoes, gets, given_up, is_ordered, status_of, end_of}
-use Rattle.session_callers.specs.declared.caller.CallPlaces.{CallPlaces}
-use Rattle.session_callers.specs.declared.callers.Callers.{Callers}
-use Rattle.session_callers.specs.Callers.{order_of, replies_of}
+use Rattle.redis_session.specs.Ties.{AreTied, AreOwed, IsReached, OrderGoes, gets, given_up, is_ordered, status_of, end_of}
+use Rattle.redis_session.specs.declared.caller.CallPlaces.{CallPlaces}
+use Rattle.redis_session.specs.declared.callers.Callers.{Callers}
+use Rattle.redis_session.specs.Callers.{order_of, replies_of}
 
 -- Events led to the state. Each call stands at its places in the order and the replies of its caller. So
 -- many parts began in all.

@@ -7,3 +7,6 @@ pub mod Waiting
 pub mod Kept
 pub mod Took
 pub mod Begun
+pub mod Ties
+pub mod Caller
+pub mod Callers

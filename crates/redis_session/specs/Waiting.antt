@@ -2,7 +2,7 @@
 use Rattle.std.specs.Prelude.{◌≡◌, ℕ, true, List, Some, slice_get}
 use Rattle.session_core.specs.Part.{PartState, is_waiting}
 use Rattle.session_core.specs.State.{State, CallState, IsPassed, part_at}
-use Rattle.session_ties.specs.Ties.{is_ordered}
+use Rattle.redis_session.specs.Ties.{is_ordered}
 use Rattle.session_core.specs.declared.part.PartOrder.TheVariants.{OfSlot}
 use Rattle.redis_session.specs.Calls.{call_in}
 

@@ -18,7 +18,11 @@
 #![tactic(auto)]
 
 mod call;
+mod caller;
+mod caller_replies;
+mod callers;
 mod calls;
+mod giving_up;
 mod links;
 mod part;
 mod part_places;

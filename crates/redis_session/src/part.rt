@@ -49,7 +49,7 @@ impl Model for Part {
 impl Part {
     ghost use Rattle.session_core.specs.Part as part;
     ghost use Rattle.session_core.specs.Part.{is_waiting, is_done, is_refusal, phase_asked, phase_told, phase_lost, phase_ended};
-    ghost use Rattle.session_ties.specs.Ties.{status_of};
+    ghost use Rattle.redis_session.specs.Ties.{status_of};
     ghost use Rattle.redis_session.specs.Part.{phase_of, Keeps, Returns};
 
     /// A part that waits. Its node may refuse it so many times, and it is asked once more each time.

@@ -6,16 +6,17 @@ ghost use Rattle.session_core.specs.Order.{MayAsk, OnLink, IsWaiting, IsOnItsWay
 ghost use Rattle.session_core.specs.declared.part.PartOrder.TheVariants.{Free};
 ghost use Rattle.session_core.specs.declared.replies.OwedReply.{OwedReply};
 ghost use Rattle.session_core.specs.Part.{PartState};
-ghost use Rattle.session_ties.specs.Ties.{is_ordered, end_of};
-ghost use Rattle.session_callers.specs.declared.caller.CallPlaces.{CallPlaces};
-ghost use Rattle.session_callers.specs.Callers.{order_of, replies_of, OthersKept};
+ghost use Rattle.redis_session.specs.Ties.{is_ordered, end_of};
+ghost use Rattle.redis_session.specs.declared.caller.CallPlaces.{CallPlaces};
+ghost use Rattle.redis_session.specs.Callers.{order_of, replies_of, OthersKept};
 ghost use Rattle.redis_session.specs.Begun.{ordered_of};
 ghost use Rattle.redis_session.specs.Kept.{PartGoes, CallGoes, CanFollow, Follows};
 
 use crate::call::Call;
+use crate::caller::CallPlaces;
+use crate::callers::Callers;
 use crate::calls::{Calls, call_of};
 use crate::part::Part;
-use session_callers::{CallPlaces, Callers};
 use session_core::{PartOrder, Status};
 use std::alloc::{AllocError, Global};
 use std::collections::VecDeque;

@@ -5,13 +5,15 @@ ghost use Rattle.session_core.specs.declared.part.Cause.TheVariants.{Overtaken, 
 ghost use Rattle.session_core.specs.declared.link.Ticket.TheVariants.{Login, Map};
 ghost use Rattle.session_core.specs.Channel.{Channel, to_write};
 ghost use Rattle.session_core.specs.Part.{PartState, is_waiting};
-ghost use Rattle.session_ties.specs.Ties.{AreOrdered, AreFree};
+ghost use Rattle.redis_session.specs.Ties.{AreOrdered, AreFree};
 ghost use Rattle.session_core.specs.LinkEvents as link;
 ghost use Rattle.redis_session.specs.Puts.{put_for};
 ghost use Rattle.redis_session.specs.Took.{IsTook};
 ghost use Rattle.redis_session.specs.Waiting.{IsOvertakenOn, HasOrdered};
 
 use crate::call::Call;
+use crate::caller::CallPlaces;
+use crate::callers::Callers;
 use crate::calls::{Calls, call_of, waiting};
 use crate::links::Links;
 use crate::part::Part;
@@ -21,7 +23,6 @@ use crate::part_places::{
 };
 use crate::took::Took;
 use crate::{calls, telling};
-use session_callers::{CallPlaces, Callers};
 use session_core::{Cause, Seat, Standing, Taken, Ticket, Wait};
 use std::alloc::{AllocError, Global};
 use std::collections::VecDeque;

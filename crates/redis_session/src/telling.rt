@@ -5,11 +5,12 @@ ghost use Rattle.redis_session.specs.Calls.{with_told, with_lost};
 ghost use Rattle.redis_session.specs.Kept.{CanFollow, Follows};
 ghost use Rattle.redis_session.specs.Took.{IsTold};
 
+use crate::caller::CallPlaces;
+use crate::callers::Callers;
 use crate::calls;
 use crate::calls::Calls;
 use crate::part_places::follow;
 use crate::took::Took;
-use session_callers::{CallPlaces, Callers};
 use session_core::Seat;
 use std::collections::VecDeque;
 

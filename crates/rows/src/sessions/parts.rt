@@ -4,7 +4,7 @@ ghost use Rattle.std.specs.Prelude.{◌≡◌, ◌<◌, ◌⊎◌, true, false, 
 ghost use Rattle.std.specs.List.{list_all};
 ghost use Rattle.session_core.specs.Part.{PartState, is_waiting, have_slot};
 ghost use Rattle.session_core.specs.State.{AreApart};
-ghost use Rattle.session_ties.specs.Ties.{is_ordered, AreOrdered, AreFree};
+ghost use Rattle.redis_session.specs.Ties.{is_ordered, AreOrdered, AreFree};
 
 use redis_session::Part;
 use session_core::PartOrder;

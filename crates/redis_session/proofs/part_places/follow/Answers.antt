@@ -1,7 +1,7 @@
 use Rattle.std.proofs.Common.{◌≡◌, ℕ, true, ap, sym, ◌∙◌, subst}
 use Rattle.session_core.specs.Order.{IsOnItsWay}
-use Rattle.session_callers.specs.Callers.{order_of}
-use Rattle.session_ties.specs.Ties.{is_ordered}
+use Rattle.redis_session.specs.Callers.{order_of}
+use Rattle.redis_session.specs.Ties.{is_ordered}
 use Rattle.redis_session.proofs.part_places.follow.Goals as goal
 
 pub place_of-place-requires-clause-within : goal.place_of-place-requires-clause-within

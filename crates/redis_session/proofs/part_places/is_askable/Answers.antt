@@ -1,6 +1,6 @@
 use Rattle.std.proofs.Common.{ℕ, refl, subst}
 use Rattle.session_core.specs.Order.{MayAsk}
-use Rattle.session_callers.specs.Callers.{order_of}
+use Rattle.redis_session.specs.Callers.{order_of}
 use Rattle.redis_session.proofs.part_places.is_askable.Goals as goal
 
 pub returns-in-Some-clause-yes : goal.returns-in-Some-clause-yes

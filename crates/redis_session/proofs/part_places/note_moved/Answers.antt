@@ -1,7 +1,7 @@
 use Rattle.std.proofs.Common.{sym, ◌∙◌, subst}
 use Rattle.session_core.specs.declared.ordered_part.Status.{Status}
 use Rattle.session_core.specs.declared.ordered_part.Status.TheVariants.{Waits, Settled, Unsent}
-use Rattle.session_callers.specs.Callers.{order_of}
+use Rattle.redis_session.specs.Callers.{order_of}
 use Rattle.redis_session.specs.Kept.{PartGoes}
 use Rattle.redis_session.proofs.PartMoves.{part_goes, goes_back, goes_settled, goes_never}
 use Rattle.redis_session.proofs.part_places.note_moved.Goals as goal

@@ -1,7 +1,7 @@
 use Rattle.std.proofs.Common.{sym, subst}
 use Rattle.session_core.specs.Order.{Order, IsWaiting}
-use Rattle.session_callers.specs.Callers.{order_of}
-use Rattle.session_ties.proofs.Goes.{waits_again}
+use Rattle.redis_session.specs.Callers.{order_of}
+use Rattle.redis_session.proofs.Ties.Goes.{waits_again}
 use Rattle.redis_session.proofs.part_places.note_never.Goals as goal
 
 pub note_unsent-requires : goal.note_unsent-requires

@@ -1,5 +1,5 @@
 use Rattle.std.proofs.Common.{sym, ◌∙◌}
-use Rattle.session_callers.specs.Callers.{order_of}
+use Rattle.redis_session.specs.Callers.{order_of}
 use Rattle.redis_session.proofs.PartMoves.{part_goes, part_stays, goes_unsent}
 use Rattle.redis_session.proofs.part_places.note_unsent.Goals as goal
 

@@ -2,8 +2,8 @@ use Rattle.std.proofs.Common.{◌≡◌, ◌<◌, ◌+◌, ◌^◌, ◌++◌, []
 use Rattle.session_core.specs.Order.{MayJoin, joined}
 use Rattle.session_core.specs.declared.part.PartOrder.{PartOrder}
 use Rattle.session_core.specs.State.{State, CallState, begun}
-use Rattle.session_callers.specs.declared.caller.CallPlaces.{CallPlaces}
-use Rattle.session_callers.specs.Callers.{order_of}
+use Rattle.redis_session.specs.declared.caller.CallPlaces.{CallPlaces}
+use Rattle.redis_session.specs.Callers.{order_of}
 use Rattle.redis_session.specs.Begun.{ordered_of}
 use Rattle.redis_session.specs.Kept.{IsKept}
 use Rattle.redis_session.proofs.Keeping.{state_of}

@@ -3,7 +3,7 @@ use Rattle.redis_session.specs.Waiting.{IsOvertakenOn}
 use Rattle.redis_session.proofs.Passing.{passed_stands, overtaken_on}
 use Rattle.session_core.specs.State.{State, IsPassed, part_at}
 use Rattle.session_core.proofs.Waiting.{part_is}
-use Rattle.session_ties.proofs.Asks.{overtaken_part}
+use Rattle.redis_session.proofs.Ties.Asks.{overtaken_part}
 use Rattle.redis_session.proofs.session.Session.end_overtaken.Goals as goal
 
 pub end_part-requires : goal.end_part-requires

@@ -3,8 +3,8 @@ use Rattle.session_core.specs.declared.ordered_part.Status.TheVariants.{Unsent}
 use Rattle.session_core.specs.declared.part.PartOrder.{PartOrder}
 use Rattle.session_core.specs.Order.{IsWaiting}
 use Rattle.session_core.specs.State.{State, MayEnd}
-use Rattle.session_callers.specs.Callers.{order_of}
-use Rattle.session_ties.specs.Ties.{is_ordered}
+use Rattle.redis_session.specs.Callers.{order_of}
+use Rattle.redis_session.specs.Ties.{is_ordered}
 use Rattle.redis_session.specs.Waiting.{WaitsThere}
 use Rattle.redis_session.specs.Kept.{IsPlace, PartGoes}
 use Rattle.redis_session.proofs.Keeping.{place_fits}

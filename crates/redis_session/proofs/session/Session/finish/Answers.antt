@@ -4,7 +4,7 @@ use Rattle.std.proofs.lemmas.Option.{same_Some}
 use Rattle.session_core.specs.declared.replies.OwedReply.{OwedReply}
 use Rattle.session_core.specs.Replies.{without_place}
 use Rattle.session_core.specs.State.{State}
-use Rattle.session_callers.specs.Callers.{order_of, replies_of, OthersKept}
+use Rattle.redis_session.specs.Callers.{order_of, replies_of, OthersKept}
 use Rattle.redis_session.proofs.Finishing.{owed_first, finish_first, finish_happens, finish_kept}
 use Rattle.redis_session.proofs.session.Session.finish.Goals as goal
 

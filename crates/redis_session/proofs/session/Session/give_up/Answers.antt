@@ -1,8 +1,8 @@
 use Rattle.std.proofs.Common.{◌≡◌, Some, ◌<◌, ◌≤◌, ◌+◌, ◌^◌, ℕ, true, length, ap, sym, ◌∙◌, subst, arith}
 use Rattle.session_core.specs.Replies.{without_place, IsOwed}
 use Rattle.session_core.specs.State.{State, call_at}
-use Rattle.session_callers.specs.Callers.{order_of, replies_of, OthersKept}
-use Rattle.session_ties.specs.Ties.{end_of}
+use Rattle.redis_session.specs.Callers.{order_of, replies_of, OthersKept}
+use Rattle.redis_session.specs.Ties.{end_of}
 use Rattle.redis_session.specs.Kept.{CallGoes}
 use Rattle.redis_session.proofs.Keeping.{call_stands}
 use Rattle.redis_session.proofs.GivingUp.{IsFirstOrder, call_fits, give_within, give_happens, give_owed, give_kept}

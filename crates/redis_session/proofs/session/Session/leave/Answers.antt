@@ -3,8 +3,8 @@ use Rattle.std.specs.List.{slice_get}
 use Rattle.session_core.specs.declared.replies.OwedReply.{OwedReply}
 use Rattle.session_core.specs.Order.{ordered_at}
 use Rattle.session_core.specs.State.{State, CallState, left_call}
-use Rattle.session_callers.specs.Callers.{order_of, replies_of}
-use Rattle.session_ties.specs.Ties.{is_ordered}
+use Rattle.redis_session.specs.Callers.{order_of, replies_of}
+use Rattle.redis_session.specs.Ties.{is_ordered}
 use Rattle.redis_session.specs.Calls.{with_call}
 use Rattle.redis_session.specs.Kept.{IsPlace}
 use Rattle.redis_session.proofs.Keeping.{call_stands}

@@ -5,8 +5,8 @@ use Rattle.session_core.specs.LinkEvents.{Put}
 use Rattle.session_core.specs.Order.{MayAsk}
 use Rattle.session_core.specs.State.{State}
 use Rattle.session_core.specs.State as machine
-use Rattle.session_callers.specs.Callers.{order_of}
-use Rattle.session_ties.specs.Ties.{is_ordered}
+use Rattle.redis_session.specs.Callers.{order_of}
+use Rattle.redis_session.specs.Ties.{is_ordered}
 use Rattle.redis_session.specs.Links.{HappensOn}
 use Rattle.redis_session.specs.Puts.{put_for}
 use Rattle.redis_session.specs.Waiting.{WaitsThere}

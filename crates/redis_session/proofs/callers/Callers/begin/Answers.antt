@@ -1,0 +1,51 @@
+use Rattle.std.proofs.Common.{subst}
+use Rattle.session_core.specs.Order.{MayJoin}
+use Rattle.redis_session.proofs.CallerMaps.{order_by, there, lent, err_kept}
+use Rattle.redis_session.proofs.callers.Callers.begin.Goals as goal
+
+pub begin-requires : goal.begin-requires
+begin-requires c =
+    let was = c.in-Some.entry.now in
+    subst (MayJoin c.args.number c.args.orders.now) (order_by c.args.caller c.args.self.now was (there c.args.caller c.args.self.now was c.in-Some.ensures.value)) c.requires
+
+pub returns-in-Some-clause-place : goal.returns-in-Some-clause-place
+returns-in-Some-clause-place c =
+    let was = c.in-Some.entry.now in
+    let now = c.begin.new.self in
+    let w = lent c.args.caller c.args.self.now (c.get_mut.follows.lender now) was now c.in-Some.ensures.value (c.get_mut.follows.holds now) in
+    rw w.was_order c.begin.ensures.place
+
+pub returns-in-Some-clause-reply : goal.returns-in-Some-clause-reply
+returns-in-Some-clause-reply c =
+    let was = c.in-Some.entry.now in
+    let now = c.begin.new.self in
+    let w = lent c.args.caller c.args.self.now (c.get_mut.follows.lender now) was now c.in-Some.ensures.value (c.get_mut.follows.holds now) in
+    rw w.was_replies c.begin.ensures.reply
+
+pub returns-in-Some-clause-joined : goal.returns-in-Some-clause-joined
+returns-in-Some-clause-joined c =
+    let was = c.in-Some.entry.now in
+    let now = c.begin.new.self in
+    let w = lent c.args.caller c.args.self.now (c.get_mut.follows.lender now) was now c.in-Some.ensures.value (c.get_mut.follows.holds now) in
+    rw (w.was_order, w.order) c.begin.ensures.joined
+
+pub returns-in-Some-clause-owed : goal.returns-in-Some-clause-owed
+returns-in-Some-clause-owed c =
+    let was = c.in-Some.entry.now in
+    let now = c.begin.new.self in
+    let w = lent c.args.caller c.args.self.now (c.get_mut.follows.lender now) was now c.in-Some.ensures.value (c.get_mut.follows.holds now) in
+    rw (w.was_replies, w.replies) c.begin.ensures.owed
+
+pub returns-in-Some-clause-others : goal.returns-in-Some-clause-others
+returns-in-Some-clause-others c =
+    let was = c.in-Some.entry.now in
+    let now = c.begin.new.self in
+    let w = lent c.args.caller c.args.self.now (c.get_mut.follows.lender now) was now c.in-Some.ensures.value (c.get_mut.follows.holds now) in
+    w.others
+
+pub returns-in-Some-clause-err : goal.returns-in-Some-clause-err
+returns-in-Some-clause-err c =
+    let was = c.in-Some.entry.now in
+    let now = c.begin.new.self in
+    let w = lent c.args.caller c.args.self.now (c.get_mut.follows.lender now) was now c.in-Some.ensures.value (c.get_mut.follows.holds now) in
+    err_kept c.args.caller was now c.args.self.now (record { callers = c.get_mut.follows.lender now }) c.begin.result w c.begin.ensures.err

@@ -1,4 +1,0 @@
-pub mod OwedReplies
-pub mod IdleCallers
-pub mod CallerMaps
-pub mod GivenUp

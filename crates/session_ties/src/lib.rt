@@ -1,2 +1,0 @@
-//! How the parts of calls stand in the orders of their callers, as lemmas.
-#![tactic(auto)]
