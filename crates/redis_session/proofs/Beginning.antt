@@ -7,7 +7,7 @@ use Rattle.session_core.specs.declared.ordered_part.OrderedPart.{OrderedPart}
 use Rattle.session_core.specs.declared.part.PartOrder.{PartOrder}
 use Rattle.session_core.specs.Order.{Order, MayJoin, joined, waiting_parts}
 use Rattle.session_core.specs.Part.{PartState, is_waiting}
-use Rattle.session_core.specs.Replies.{owes}
+use Rattle.session_core.specs.Replies.{owes, HaveBegun}
 use Rattle.session_core.specs.State.{State, CallState, Begin, begun, AreApart, May, Happens, after}
 use Rattle.session_core.proofs.AfterEvents.{has_begun}
 use Rattle.session_core.proofs.OrderJoins.{length-waiting}
@@ -18,7 +18,7 @@ use Rattle.redis_session.specs.Callers.{order_of, replies_of, OthersKept, CallsK
 use Rattle.redis_session.specs.Ties.{AreTied, AreOwed, AreOrdered, AreFree, is_ordered, end_of}
 use Rattle.redis_session.proofs.Ties.Tied.{tied_orders}
 use Rattle.redis_session.proofs.Ties.Begins.{orders_of, may_join, tied_began, tied_began_free}
-use Rattle.redis_session.proofs.Ties.Owed.{more_of, owed_began, owed_skipped}
+use Rattle.redis_session.proofs.Ties.Owed.{more_of, owed_began, owed_same}
 use Rattle.redis_session.proofs.Ties.Reached.{reached_after}
 use Rattle.redis_session.specs.Begun.{ordered_of}
 use Rattle.redis_session.specs.Kept.{IsKept}
@@ -88,7 +88,7 @@ begin_failed {callers = callers} s new k kept = record {
   at = k.at;
   reached = k.reached;
   tied = tied_orders (λ caller. order_of caller new) k.tied kept.order;
-  owed = owed_skipped (λ caller. replies_of caller new) k.owed (record { owed = kept.owed; skipped = kept.skipped });
+  owed = owed_same (λ caller. replies_of caller new) k.owed kept.owed;
   short = λ caller. let end : end_of (order_of caller new) ≡ end_of (order_of caller callers) = ap end_of (kept.order caller) in omega (arith, end, k.short caller);
   fits = k.fits;
 }
@@ -117,7 +117,7 @@ begin_happens s now call caller parts calls e is wait apart calls_are = subst (�
 module _ {places : List CallPlaces} {callers : Callers} {began : ℕ} (s : State) (k : IsKept s places callers began) (call caller : ℕ) (parts : List PartState) (at : CallPlaces) (new : Callers) (calls : List CallState)
     (is : call ≡ begun s) (wait : list_all (λ p. is_waiting p.phase) parts ≡ true) (apart : AreApart parts) (alike : AreAlike parts)
     (order_at : at.order ≡ end_of (order_of caller callers)) (reply_at : at.reply ≡ (replies_of caller callers).next_place)
-    (joins_as : order_of caller new ≡ joined call (ordered_of parts) (order_of caller callers)) (owes_as : replies_of caller new ≡ owes call (replies_of caller callers)) (kept : OthersKept caller callers new)
+    (joins_as : order_of caller new ≡ joined call (ordered_of parts) (order_of caller callers)) (owes_as : replies_of caller new ≡ owes call (replies_of caller callers)) (below : HaveBegun (replies_of caller callers)) (kept : OthersKept caller callers new)
     (calls_are : calls ≡ s.calls ++ begun_call caller parts ∷ []) where
   may : May (Begin call caller parts) s
   may = (is, wait, apart)
@@ -171,7 +171,7 @@ module _ {places : List CallPlaces} {callers : Callers} {began : ℕ} (s : State
         tied = subst (λ t. AreTied t (with_place call at.order k.order_places) (λ c. order_of c new)) (sym happens.is) tied;
         owed = subst (λ t. AreOwed t (with_place call at.reply k.reply_places) (λ c. replies_of c new)) (sym happens.is)
             (owed_began call caller parts (λ c. replies_of c new) (with_place call at.reply k.reply_places) k.owed may
-            (more_of caller call (λ c. replies_of c callers) (λ c. replies_of c new) owes_as kept.replies)
+            (more_of caller call (λ c. replies_of c callers) (λ c. replies_of c new) owes_as kept.replies) below
             (place_here call at.reply k.reply_places ∙ reply_at) (place_stays call at.reply k.reply_places));
         short = λ c. omega (arith, short c, total_is);
         fits = omega (arith, many, is, room);

@@ -7,7 +7,7 @@ use Rattle.std.specs.BTreeMap.{BTreeMap, get, is_at, UpdatesBy, WritesThrough}
 use Rattle.std.proofs.lemmas.Bool.{cases_eq}
 use Rattle.std.proofs.lemmas.Bool.Decides.{nat_tests}
 use Rattle.session_core.specs.declared.ordered_part.OrderedPart.{OrderedPart}
-use Rattle.session_core.specs.Order.{Order, no_order, ordered_at}
+use Rattle.session_core.specs.Order.{Order, no_order, ordered_at, IsTrimmed}
 use Rattle.session_core.specs.Replies.{Replies}
 use Rattle.session_core.proofs.Places.{none_at}
 use Rattle.redis_session.specs.declared.caller.Caller.{Caller}
@@ -40,11 +40,14 @@ pub empty : (caller : ℕ) (callers : Callers) → callers.callers.entries ≡ [
 empty caller callers e = ap (λ (es : List (ℕ × Caller)). unwrap_or (lookup (is_at (nat_cmp caller)) es) no_calls) e
 
 -- no part stands in an order without parts
-pub nothing_at : (place : ℕ) (order : Order) → order ≡ no_order → ordered_at place order ≡ None
+nothing_at : (place : ℕ) (order : Order) → order ≡ no_order → ordered_at place order ≡ None
 nothing_at place order e = ap (ordered_at place) e ∙ none_at {X = OrderedPart} place 0 [] refl
 
 pub none_there : (place : ℕ) (order : Order) (p : OrderedPart) → order ≡ no_order → ordered_at place order ≡ Some p → ⊥
 none_there place order p e at = let n = nothing_at place order e in let q : ◌≡◌ {A = Option OrderedPart} None (Some p) = sym n ∙ at in cc
+
+pub no_front : (order : Order) → order ≡ no_order → IsTrimmed order
+no_front order e = λ p at. absurd (none_there order.first order p e at)
 
 other_key : (caller other : ℕ) → other ≢ caller → is_at (nat_cmp caller) other ≡ false
 other_key caller other ne = grind (arith, nat_tests)
@@ -100,13 +103,6 @@ each_kept caller was now old new w k = record {
     | inl e ↦ subst (λ (n : ℕ). (replies_of n new).owed ≡ (replies_of n old).owed) (sym e) (ap (λ (r : Replies). r.owed) w.replies ∙ k.owed ∙ sym (ap (λ (r : Replies). r.owed) w.was_replies))
     | inr ne ↦ ap (λ (r : Replies). r.owed) (w.others.replies other ne)
   ];
-  skipped = λ other. elim (cases_eq other caller) [
-    | inl e ↦
-        let after = ap (λ (r : Replies). r.next_place) w.replies in
-        let before = ap (λ (r : Replies). r.next_place) w.was_replies in
-        subst (λ (n : ℕ). (replies_of n old).next_place ≤ (replies_of n new).next_place) (sym e) (omega (arith, after, before, k.skipped))
-    | inr ne ↦ let same = ap (λ (r : Replies). r.next_place) (w.others.replies other ne) in omega (arith, same)
-  ];
 }
 
 pub err_kept : {T E : Type 0} (caller : ℕ) (was now : Caller) (old new : Callers) (result : Result T E) → Written caller was now old new → OnErr result (KeepsCalls was now) → OnErr result (CallsKept old new)
@@ -127,5 +123,4 @@ err_same old new (Ok x) e = tt
 err_same old new (Err x) e = record {
   order = λ other. same_order other old new (same_callers other old new e);
   owed = λ other. ap (λ (r : Replies). r.owed) (same_replies other old new (same_callers other old new e));
-  skipped = λ other. let same = ap (λ (r : Replies). r.next_place) (same_replies other old new (same_callers other old new e)) in omega (arith, same);
 }

@@ -52,15 +52,15 @@ module _ {places : List CallPlaces} {callers : Callers} {began : ℕ} (s : State
   })
 
   pub finish_kept : (new : Callers) → order_of state.caller new ≡ order_of state.caller callers → (replies_of state.caller new).owed ≡ without_place first.place (replies_of state.caller callers).owed
-      → (replies_of state.caller new).next_place ≡ (replies_of state.caller callers).next_place → OthersKept state.caller callers new → IsKept (state_of s.links s.first calls) places new began
-  finish_kept new order owed next kept =
+      → OthersKept state.caller callers new → IsKept (state_of s.links s.first calls) places new began
+  finish_kept new order owed kept =
       let held : IsHeld s state.caller call = record { state = state; call_is = call_is; caller_is = refl; wanted = wanted } in
       let at : first.place ≡ k.reply_places call = (first_held state.caller first k.owed is).1 ∙ ap k.reply_places same in
       let gone : (replies_of state.caller new).owed ≡ without_place (k.reply_places call) (replies_of state.caller callers).owed = owed ∙ ap (λ n. without_place n (replies_of state.caller callers).owed) at in
       let orders = same_orders state.caller callers new order kept in
       kept_by (Finish call state) (state_of s.links s.first calls) new k (finish_happens s refl) refl (length-numbered (call_after (Finish call state)) s.first s.calls)
       (tied_quiet (Finish call state) (λ c. order_of c new) k.tied finish_may tt orders)
-      (owed_finished state (λ c. replies_of c new) k.owed finish_may held (over_of state.caller (k.reply_places call) (λ c. replies_of c callers) (λ c. replies_of c new) gone next kept.replies))
+      (owed_finished state (λ c. replies_of c new) k.owed finish_may held (over_of state.caller (k.reply_places call) (λ c. replies_of c callers) (λ c. replies_of c new) gone kept.replies))
       (λ c. let end : end_of (order_of c new) ≡ end_of (order_of c callers) = ap end_of (orders c) in omega (arith, end, k.short c))
 
 -- ---- why it may not be finished
@@ -68,10 +68,6 @@ module _ {places : List CallPlaces} {callers : Callers} {began : ℕ} (s : State
 pub finish_wants : (s now : State) (call : ℕ) (state it : CallState) → s ≡ now → call_at call s ≡ Some it → MayFinish call state now → state ≡ it
 finish_wants s now call state it e is may =
     same_Some state it (sym may.call_is ∙ ap (call_at call) (sym e) ∙ is)
-
-pub finish_none : (s now : State) (call : ℕ) (state : CallState) → s ≡ now → call_at call s ≡ None → MayFinish call state now → ⊥
-finish_none s now call state e none may =
-    let no : None ≡ Some state = sym none ∙ ap (call_at call) e ∙ may.call_is in absurd (cc)
 
 pub finish_first : {places : List CallPlaces} {callers : Callers} {began : ℕ} (s now : State) (k : IsKept s places callers began) (call : ℕ) (state it : CallState) → s ≡ now → call_at call s ≡ Some it → MayFinish call state now
     → (first : OwedReply) × (slice_get (replies_of it.caller callers).owed 0 ≡ Some first) × (first.number ≡ call)

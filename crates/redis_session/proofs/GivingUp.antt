@@ -106,8 +106,8 @@ module _ {places : List CallPlaces} {callers : Callers} {began : ℕ} (s : State
   pub give_kept : (after_calls : List CallState) (mid new : Callers) (reply : ℕ) → state.is_wanted ≡ true → ((at : CallPlaces) → slice_get places (call - s.first) ≡ Some at → reply ≡ at.reply)
       → after_calls ≡ with_call call s.first calls.given_up s.calls → CallGoes state.caller place count order callers mid
       → order_of state.caller new ≡ order_of state.caller mid → (replies_of state.caller new).owed ≡ without_place reply (replies_of state.caller mid).owed
-      → (replies_of state.caller new).next_place ≡ (replies_of state.caller mid).next_place → OthersKept state.caller mid new → IsKept (state_of s.links s.first after_calls) places new began
-  give_kept after_calls mid new reply wanted reply_as is goes order_same owed next kept =
+      → OthersKept state.caller mid new → IsKept (state_of s.links s.first after_calls) places new began
+  give_kept after_calls mid new reply wanted reply_as is goes order_same owed kept =
       let caller = state.caller in
       let st = call_stands k call state call_is in
       let may : call < begun s = has_begun call s state call_is in
@@ -116,7 +116,6 @@ module _ {places : List CallPlaces} {callers : Callers} {began : ℕ} (s : State
       let at : reply ≡ k.reply_places call = reply_as st.at st.there ∙ sym st.reply_is in
       let gone : (replies_of caller new).owed ≡ without_place (k.reply_places call) (replies_of caller callers).owed =
       owed ∙ ap (λ n. without_place n (replies_of caller mid).owed) at ∙ ap (λ (r : Replies). without_place (k.reply_places call) r.owed) (goes.replies caller) in
-      let next_same : (replies_of caller new).next_place ≡ (replies_of caller callers).next_place = next ∙ ap (λ (r : Replies). r.next_place) (goes.replies caller) in
       let others : (other : ℕ) → other ≢ caller → order_of other new ≡ order_of other callers = λ other ne. orders other ∙ goes.others other ne in
       let to : is_ordered order ≡ true → OrderGoes (given_up place count) (order_of caller callers) (order_of caller new) = λ o. subst (λ (x : Order). OrderGoes (given_up place count) (order_of caller callers) x) (sym (orders caller)) (goes.ordered o) in
       let same : is_ordered order ≡ false → (other : ℕ) → order_of other new ≡ order_of other callers = λ f other. elim (cases_eq other caller) [
@@ -134,7 +133,7 @@ module _ {places : List CallPlaces} {callers : Callers} {began : ℕ} (s : State
       others)
       (λ f. gave_up_free call (λ c. order_of c new) k.tied may (none_ordered call state order k.tied call_is first f) (same f)))
       (owed_given_up (λ c. replies_of c new) k.owed may held
-      (over_of caller (k.reply_places call) (λ c. replies_of c callers) (λ c. replies_of c new) gone next_same (λ other ne. kept.replies other ne ∙ goes.replies other)))
+      (over_of caller (k.reply_places call) (λ c. replies_of c callers) (λ c. replies_of c new) gone (λ other ne. kept.replies other ne ∙ goes.replies other)))
       (λ other. elim (cases_eq other caller) [
         | inl own ↦ by_test (is_ordered order)
             (λ o.

@@ -1,13 +1,13 @@
 -- The parts of a call are forgotten.
-use Rattle.std.proofs.Common.{arith, ◌<◌, ◌≡◌, ◌≤◌, ◌-◌, ℕ, true, false, List, length, None, Some, refl, sym, ap, ◌∙◌, subst}
+use Rattle.std.proofs.Common.{arith, inl, inr, ◌<◌, ◌≡◌, ◌≤◌, ◌+◌, ◌-◌, ℕ, true, false, List, length, Some, refl, sym, ap, ◌∙◌, subst}
 use Rattle.std.specs.List.{slice_get, list_all}
 use Rattle.resp_core.proofs.Cases.{by_test}
 use Rattle.session_core.specs.declared.part.PartOrder.{PartOrder}
 use Rattle.session_core.specs.declared.replies.OwedReply.{OwedReply}
-use Rattle.session_core.specs.Order.{ordered_at}
+use Rattle.session_core.specs.Order.{IsTrimmed}
 use Rattle.session_core.specs.Part.{is_done}
 use Rattle.session_core.specs.State.{State, CallState, Leave, numbered, call_at, call_after, link_after, left_call, IsTurn, MayLeave, Happens}
-use Rattle.session_core.proofs.AfterEvents.{length-numbered}
+use Rattle.session_core.proofs.AfterEvents.{length-numbered, all_at, same_call}
 use Rattle.redis_session.specs.declared.caller.CallPlaces.{CallPlaces}
 use Rattle.redis_session.specs.declared.callers.Callers.{Callers}
 use Rattle.redis_session.specs.Callers.{order_of, replies_of}
@@ -20,9 +20,14 @@ use Rattle.redis_session.proofs.CallChanges.{left_calls}
 use Rattle.redis_session.proofs.Keeping.{state_of, call_stands, place_is, kept_by}
 use Rattle.redis_session.proofs.Finishing.{links_stay}
 use Rattle.redis_session.proofs.GivingUp.{IsFirstOrder, first_has, none_ordered}
-use Rattle.redis_session.specs.Waiting.{HasOrdered}
-use Rattle.session_core.proofs.Waiting.{part_is}
+use Rattle.redis_session.specs.Waiting.{IsHeldBack}
 use Rattle.std.proofs.lemmas.Option.{same_Some}
+use Rattle.std.proofs.lemmas.Bool.{false≢true, cases_order}
+use Rattle.session_core.specs.declared.ordered_part.OrderedPart.{OrderedPart}
+use Rattle.session_core.specs.Order.{is_done as status_done}
+use Rattle.session_core.proofs.Places.{at_within, at_there}
+use Rattle.redis_session.proofs.Ties.Parts.{done_status}
+use Rattle.redis_session.proofs.Ties.GiveUps.{part_of, part_within}
 
 module _ {places : List CallPlaces} {callers : Callers} {began : ℕ} (s : State) (k : IsKept s places callers began) (call : ℕ) (state : CallState) (order : PartOrder) (place : ℕ) (calls : List CallState)
     (call_is : call_at call s ≡ Some state) (unwanted : state.is_wanted ≡ false) (done : list_all (λ p. is_done p.phase) state.parts ≡ true)
@@ -37,15 +42,16 @@ module _ {places : List CallPlaces} {callers : Callers} {began : ℕ} (s : State
         ∙ ap (state_of (numbered (link_after (Leave call)) 0 s.links) s.first) (calls_are ∙ left_calls call s.first s.calls);
   })
 
-  past : IsFirstOrder state.parts order → IsPlace s.first call (length state.parts - 1) places order place → (is_ordered order ≡ true → ordered_at place (order_of state.caller callers) ≡ None)
+  past : IsFirstOrder state.parts order → IsPlace s.first call (length state.parts - 1) places order place → (is_ordered order ≡ true → place < (order_of state.caller callers).first)
       → IsPast s k.order_places (λ c. order_of c callers) call
   past first at gone = by_test (is_ordered order)
       (λ o.
       let here = place_is k call (length state.parts - 1) place order (call_stands k call state call_is) at o in
-      past_by_last call state.caller state k.tied call_is refl (ap (λ n. ordered_at n (order_of state.caller callers)) (sym here) ∙ gone o))
+      let before = gone o in
+      past_by_last k.order_places (λ c. order_of c callers) call state.caller state call_is refl (omega (arith, here, before)))
       (λ f. past_free s k.order_places (λ c. order_of c callers) call (none_ordered call state order k.tied call_is first f))
 
-  pub leave_kept : IsFirstOrder state.parts order → IsPlace s.first call (length state.parts - 1) places order place → (is_ordered order ≡ true → ordered_at place (order_of state.caller callers) ≡ None)
+  pub leave_kept : IsFirstOrder state.parts order → IsPlace s.first call (length state.parts - 1) places order place → (is_ordered order ≡ true → place < (order_of state.caller callers).first)
       → IsKept (state_of s.links s.first calls) places callers began
   leave_kept first at gone =
       kept_by (Leave call) (state_of s.links s.first calls) callers k (leave_happens s refl) refl (length-numbered (call_after (Leave call)) s.first s.calls)
@@ -64,7 +70,47 @@ not_before s now k call state first e call_is may is before =
     let le = turn_above state.caller call first k.owed turn is in
     omega (arith, le, before)
 
-pub some_ordered : (s now : State) (call : ℕ) (state : CallState) (order : PartOrder) → s ≡ now → call_at call s ≡ Some state → IsFirstOrder state.parts order → is_ordered order ≡ true → HasOrdered call now
-some_ordered s now call state order e is first o =
-    let h = first_has s call state order is first o in
-    subst (HasOrdered call) e (0, h.p, part_is state.caller call 0 s h.p h.has, ap is_ordered (sym h.order_is) ∙ o)
+-- The last part stands in the order still: the first one that is left there is not done, and of an earlier call.
+pub held_back : {places : List CallPlaces} {callers : Callers} {began : ℕ} (s now : State) (k : IsKept s places callers began) (call : ℕ) (state : CallState) (order : PartOrder) (place : ℕ) → s ≡ now → call_at call s ≡ Some state → MayLeave call now
+    → IsFirstOrder state.parts order → IsPlace s.first call (length state.parts - 1) places order place → is_ordered order ≡ true
+    → (order_of state.caller callers).first ≤ place → IsTrimmed (order_of state.caller callers) → IsHeldBack call now
+held_back {callers = callers} s now k call state order place e call_is may first at o low front =
+    let m = subst (λ t. MayLeave call t) (sym e) may in
+    let caller = state.caller in
+    let h = first_has s call state order call_is first o in
+    let many : length h.has.state.parts ≡ length state.parts = ap (λ (c : CallState). length c.parts) h.state_is in
+    let some = part_within h.has in
+    let here = place_is k call (length state.parts - 1) place order (call_stands k call state call_is) at o in
+    let last = part_of h.has (length state.parts - 1) (omega (arith, some, many)) in
+    let own : is_ordered h.p.order ≡ true = ap is_ordered (sym h.order_is) ∙ o in
+    let last_o : is_ordered last.0.order ≡ true = sym (k.tied.alike caller call 0 (length state.parts - 1) h.p last.0 h.has last.1) ∙ own in
+    let stands = k.tied.stands caller call (length state.parts - 1) last.0 last.1 last_o (omega (arith, here, low)) in
+    let within = at_within (k.order_places call + (length state.parts - 1)) (order_of caller callers).first (order_of caller callers).parts _ stands in
+    let x = at_there (order_of caller callers).first (order_of caller callers).first (order_of caller callers).parts (omega arith) (omega (arith, within.0, within.1)) in
+    let c = k.tied.comes caller (order_of caller callers).first x.0 x.1 in
+    let undone : is_done c.0.phase ≡ false = sym (done_status c.0.phase) ∙ ap (λ (y : OrderedPart). status_done y.status) (sym c.2) ∙ front x.0 x.1 in
+    let done : list_all (λ p. is_done p.phase) c.1.state.parts ≡ true → is_done c.0.phase ≡ true = λ all. all_at (λ p. is_done p.phase) c.1.state.parts x.0.seat.part c.0 all c.1.part_is in
+    subst (IsHeldBack call) e (record {
+      caller = caller;
+      part = 0;
+      it = h.p;
+      has = h.has;
+      ordered = own;
+      earlier = x.0.seat.call;
+      earlier_part = x.0.seat.part;
+      other = c.0;
+      has_earlier = c.1;
+      is_earlier = elim (cases_order x.0.seat.call call) [
+        | inl same ↦
+            let both : m.state ≡ c.1.state = same_call m.state c.1.state (sym m.call_is ∙ ap (λ n. call_at n s) (sym same) ∙ c.1.call_is) in
+            absurd (false≢true (sym undone ∙ done (ap (λ (d : CallState). list_all (λ p. is_done p.phase) d.parts) (sym both) ∙ m.done)))
+        | inr apart ↦ elim apart [
+          | inl lt ↦ lt
+          | inr gt ↦
+              let more = k.tied.rising caller call x.0.seat.call (length state.parts - 1) x.0.seat.part last.0 c.0 gt last.1 c.1 last_o c.3 in
+              absurd (omega (arith, more, c.4, here, low))
+        ]
+      ];
+      earlier_ordered = c.3;
+      undone = undone;
+    })

@@ -1,9 +1,10 @@
 -- What happens to one link of those of a session.
-use Rattle.std.proofs.Common.{◌≡◌, ◌≢◌, ◌<◌, ◌+◌, ◌++◌, ◌⊎◌, inl, inr, ℕ, zero, suc, Bool, true, false, if◌then◌else◌, eqb, List, [], ◌∷◌, length, get_or, set, Option, None, Some, refl, sym, ap, ◌∙◌, subst, arith}
+use Rattle.std.proofs.Common.{◌≡◌, ◌≢◌, ◌<◌, ◌≤◌, ◌+◌, ◌++◌, ◌⊎◌, inl, inr, ℕ, zero, suc, Bool, true, false, if◌then◌else◌, eqb, List, [], ◌∷◌, length, length-append, length-set, get_or, set, Option, None, Some, refl, sym, ap, ◌∙◌, subst, arith}
 use Rattle.std.specs.List.{slice_get}
 use Rattle.std.proofs.lemmas.Option.{slice_get_read, slice_get_within, slice_get_past}
 use Rattle.std.proofs.lemmas.Bool.{eq-eqb}
 use Rattle.session_core.specs.declared.link.Taken.{Taken}
+use Rattle.session_core.specs.declared.link.Ticket.{Ticket}
 use Rattle.session_core.specs.declared.link.Taken.TheVariants.{Nothing, Reply, Broken}
 use Rattle.session_core.specs.Taken.{IsTaken}
 use Rattle.session_core.specs.Channel.{Channel, fresh}
@@ -11,8 +12,8 @@ use Rattle.session_core.specs.LinkEvents as link
 use Rattle.session_core.specs.State.{Open, On, Forget, numbered, link_after, links_for}
 use Rattle.session_core.proofs.AfterEvents.{numbered_one}
 use Rattle.session_core.proofs.PlaceLists.{get_pushed_last, get_before}
-use Rattle.redis_session.specs.Free.{AreFree}
-use Rattle.redis_session.specs.Links.{HasLink, HappensOn, IsTakenOn, Opens, Forgets}
+use Rattle.redis_session.specs.Free.{AreFree, count_free}
+use Rattle.redis_session.specs.Links.{HasLink, HasReply, HappensOn, IsTakenOn, Opens, Forgets}
 use Rattle.redis_session.proofs.Numbers.{other_number}
 use Rattle.redis_session.proofs.PartLists.{get_set_same}
 
@@ -84,15 +85,68 @@ taken_on slots now number item c d new Nothing e has read is h = (
 taken_on slots now number item c d new (Reply ticket reply) e has read is h = happens_on slots now number item c d new _ e has read is h
 taken_on slots now number item c d new (Broken cause) e has read is h = happens_on slots now number item c d new _ e has read is h
 
+pub has_reply : (slots now : Links) (number : ℕ) (item : Option Channel) (c d : Channel) → slots ≡ now → HasLink now number d → item ≡ get_or slots number item → item ≡ Some c
+    → (ticket : Ticket) × (reply : List ℕ) × link.IsAnswered c ticket reply → HasReply number now
+has_reply slots now number item c d e has read is h = record {
+  channel = c;
+  there = subst (λ (xs : Links). HasLink xs number c) e (read_link slots now number item c d e has read is);
+  ticket = h.0;
+  reply = h.1;
+  answered = h.2;
+}
+
+-- ---- how many numbers are free
+
+count_kept : (links : Links) (n : ℕ) (c new : Channel) → slice_get links n ≡ Some (Some c) → count_free (set links n (Some new)) ≡ count_free links
+count_kept [] n c new e = absurd (cc)
+count_kept (None ∷ links) zero c new e = absurd (cc)
+count_kept (Some x ∷ links) zero c new e = refl
+count_kept (None ∷ links) (suc n) c new e = ap suc (count_kept links n c new e)
+count_kept (Some x ∷ links) (suc n) c new e = count_kept links n c new e
+
+count_more : (links : Links) (n : ℕ) (c : Channel) → slice_get links n ≡ Some (Some c) → count_free (set links n None) ≡ suc (count_free links)
+count_more [] n c e = absurd (cc)
+count_more (None ∷ links) zero c e = absurd (cc)
+count_more (Some x ∷ links) zero c e = refl
+count_more (None ∷ links) (suc n) c e = ap suc (count_more links n c e)
+count_more (Some x ∷ links) (suc n) c e = count_more links n c e
+
+count_less : (links : Links) (n : ℕ) (new : Channel) → slice_get links n ≡ Some None → suc (count_free (set links n (Some new))) ≡ count_free links
+count_less [] n new e = absurd (cc)
+count_less (None ∷ links) zero new e = refl
+count_less (Some x ∷ links) zero new e = absurd (cc)
+count_less (None ∷ links) (suc n) new e = ap suc (count_less links n new e)
+count_less (Some x ∷ links) (suc n) new e = count_less links n new e
+
+count_pushed : (links : Links) (new : Channel) → count_free (links ++ Some new ∷ []) ≡ count_free links
+count_pushed [] new = refl
+count_pushed (None ∷ links) new = ap suc (count_pushed links new)
+count_pushed (Some x ∷ links) new = count_pushed links new
+
+count_within : (links : Links) → count_free links ≤ length links
+count_within [] = omega arith
+count_within (None ∷ links) = let rest = count_within links in omega (arith, rest)
+count_within (Some x ∷ links) = let rest = count_within links in omega (arith, rest)
+
+count_some : (links : Links) (n : ℕ) → slice_get links n ≡ Some None → 0 < count_free links
+count_some [] n e = absurd (cc)
+count_some (None ∷ links) n e = omega arith
+count_some (Some x ∷ links) zero e = absurd (cc)
+count_some (Some x ∷ links) (suc n) e = count_some links n e
+
 -- ---- free numbers
 
-pub still_free : (free : List ℕ) (slots : Links) (number : ℕ) (c : Channel) (new : Option Channel) → AreFree free slots → HasLink slots number c → AreFree free (set slots number new)
+still_free : (free : List ℕ) (slots : Links) (number : ℕ) (c new : Channel) → AreFree free slots → HasLink slots number c → AreFree free (set slots number (Some new))
 still_free free slots number c new f there = record {
   empty = λ i n e.
       let none = f.empty i n e in
-      get_set slots number n new (λ same. let q : Some None ≡ Some (Some c) = sym none ∙ ap (slice_get slots) same ∙ there in absurd (cc)) ∙ none;
+      get_set slots number n (Some new) (λ same. let q : Some None ≡ Some (Some c) = sym none ∙ ap (slice_get slots) same ∙ there in absurd (cc)) ∙ none;
   apart = f.apart;
+  count = f.count ∙ sym (count_kept slots number c new there);
 }
+
+pub still_kept : {room : ℕ} (free : List ℕ) (slots : Links) (number : ℕ) (c new : Channel) → AreFree free slots × (length slots ≤ room) → HasLink slots number c → AreFree free (set slots number (Some new)) × (length (set slots number (Some new)) ≤ room)
+still_kept free slots number c new f there = (still_free free slots number c new f.0 there, omega (arith, f.1, length-set slots number (Some new)))
 
 freed_at : (free : List ℕ) (number i n : ℕ) → slice_get (free ++ number ∷ []) i ≡ Some n → (slice_get free i ≡ Some n) ⊎ ((i ≡ length free) × (n ≡ number))
 freed_at [] number zero n e = inr (refl, let q : n ≡ number = cc in q)
@@ -103,14 +157,13 @@ freed_at (x ∷ free) number (suc i) n e = elim (freed_at free number i n e) [
   | inr q ↦ inr (ap suc q.0, q.1)
 ]
 
-pub one_more_free : (free : List ℕ) (slots : Links) (number : ℕ) (c : Channel) → AreFree free slots → HasLink slots number c → AreFree (free ++ number ∷ []) (set slots number None)
+one_more_free : (free : List ℕ) (slots : Links) (number : ℕ) (c : Channel) → AreFree free slots → HasLink slots number c → AreFree (free ++ number ∷ []) (set slots number None)
 one_more_free free slots number c f there =
-    let kept = still_free free slots number c None f there in
     let own : slice_get (set slots number None) number ≡ Some None = get_set_same slots number None (slice_get_within slots number (Some c) there) in
     let never : (i : ℕ) → slice_get free i ≡ Some number → ⊥ = λ i e. let q : Some None ≡ Some (Some c) = sym (f.empty i number e) ∙ there in absurd (cc) in
     record {
       empty = λ i n e. elim (freed_at free number i n e) [
-        | inl q ↦ kept.empty i n q
+        | inl q ↦ get_set slots number n None (λ same. never i (q ∙ ap Some same)) ∙ f.empty i n q
         | inr q ↦ ap (slice_get (set slots number None)) q.1 ∙ own
       ];
       apart = λ i j n e d. elim (freed_at free number i n e) [
@@ -123,29 +176,43 @@ one_more_free free slots number c f there =
           | inr w ↦ q.0 ∙ sym w.0
         ]
       ];
+      count = (let n : length (free ++ number ∷ []) ≡ suc (length free) = omega (arith, length-append free (number ∷ [])) in n) ∙ ap suc f.count ∙ sym (count_more slots number c there);
     }
 
-pub freed : (free more : List ℕ) (slots : Links) (number : ℕ) (c : Channel) (kept : Bool) → more ≡ (if kept then free ++ number ∷ [] else free) → AreFree free slots → HasLink slots number c → AreFree more (set slots number None)
-freed free more slots number c true is f there = subst (λ (ns : List ℕ). AreFree ns (set slots number None)) (sym is) (one_more_free free slots number c f there)
-freed free more slots number c false is f there = subst (λ (ns : List ℕ). AreFree ns (set slots number None)) (sym is) (still_free free slots number c None f there)
+pub freed : (free more : List ℕ) (slots : Links) (number : ℕ) (c : Channel) → more ≡ free ++ number ∷ [] → AreFree free slots → HasLink slots number c → AreFree more (set slots number None)
+freed free more slots number c is f there = subst (λ (ns : List ℕ). AreFree ns (set slots number None)) (sym is) (one_more_free free slots number c f there)
 
-pub one_less_free : (free more : List ℕ) (slots : Links) (number : ℕ) (new : Option Channel) → AreFree more slots → more ≡ free ++ number ∷ [] → AreFree free (set slots number new)
+-- a number that is not free has room among those that are
+pub has_room : (free : List ℕ) (slots : Links) (number : ℕ) (c : Channel) → AreFree free slots → HasLink slots number c → length free < length slots
+has_room free slots number c f there =
+    let more = count_more slots number c there in
+    let within = count_within (set slots number None) in
+    omega (arith, f.count, more, within, length-set slots number None)
+
+pub one_less_free : (free more : List ℕ) (slots : Links) (number : ℕ) (new : Channel) → AreFree more slots → more ≡ free ++ number ∷ [] → AreFree free (set slots number (Some new))
 one_less_free free more slots number new g is =
     let f : AreFree (free ++ number ∷ []) slots = subst (λ (ns : List ℕ). AreFree ns slots) is g in
     let last = get_pushed_last free number in
     let old : (i n : ℕ) → slice_get free i ≡ Some n → slice_get (free ++ number ∷ []) i ≡ Some n = λ i n e. get_before free (number ∷ []) i (slice_get_within free i n e) ∙ e in
+    let fewer = count_less slots number new (f.empty (length free) number last) in
     record {
-      empty = λ i n e. get_set slots number n new (λ same.
+      empty = λ i n e. get_set slots number n (Some new) (λ same.
           let at : i ≡ length free = f.apart i (length free) n (old i n e) (last ∙ ap Some (sym same)) in
           omega (arith, at, slice_get_within free i n e)) ∙ f.empty i n (old i n e);
       apart = λ i j n e d. f.apart i j n (old i n e) (old j n d);
+      count = omega (arith, f.count, length-append free (number ∷ []), fewer);
     }
 
-pub grown_free : (free : List ℕ) (slots : Links) (new : Option Channel) → AreFree free slots → AreFree free (slots ++ new ∷ [])
-grown_free free slots new f = record {
-  empty = λ i n e. get_before slots (new ∷ []) n (slice_get_within slots n None (f.empty i n e)) ∙ f.empty i n e;
+pub grown_free : (free : List ℕ) (slots more : Links) (new : Channel) → AreFree free slots → more ≡ slots ++ Some new ∷ [] → AreFree free more
+grown_free free slots more new f is = subst (AreFree free) (sym is) (record {
+  empty = λ i n e. get_before slots (Some new ∷ []) n (slice_get_within slots n None (f.empty i n e)) ∙ f.empty i n e;
   apart = f.apart;
-}
+  count = f.count ∙ sym (count_pushed slots new);
+})
+
+-- if no number stands among the free ones, none is free
+pub none_free : (free : List ℕ) (slots now : Links) → AreFree free slots → slots ≡ now → length free ≡ 0 → (n : ℕ) → slice_get now n ≡ Some None → ⊥
+none_free free slots now f e none n there = let some = count_some slots n (ap (λ xs. slice_get xs n) e ∙ there) in omega (arith, f.count, none, some)
 
 -- ---- opened and forgotten
 

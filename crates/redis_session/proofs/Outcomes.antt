@@ -29,7 +29,3 @@ by_result (Err e) p q f g = g q
 pub by_value : {A E Q R : Type 0} {P : A → Type 0} (r : Result A E) → IfOk r P → OnErr r Q → ((a : A) → P a → R) → (Q → R) → R
 by_value (Ok a) p q f g = f a p
 by_value (Err e) p q f g = g q
-
-pub for_err : {A E P : Type 0} (r : Result A E) → P → OnErr r P
-for_err (Ok a) p = tt
-for_err (Err e) p = p

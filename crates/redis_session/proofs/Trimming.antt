@@ -47,9 +47,3 @@ trim_kept {places = places} {callers = callers} {began = began} s front first ca
       short = k.short;
       fits = omega (arith, next, many, some, k.fits);
     }
-
-pub trim_room : {places : List CallPlaces} {callers : Callers} {began : ℕ} (s : State) (front : CallState) → IsKept s places callers began → slice_get s.calls 0 ≡ Some front → front ≡ left_call → s.first + 1 < 18446744073709551616
-trim_room s front k is left =
-    let may = front_is s.calls front is left in
-    let some : length s.calls ≡ suc (length may.0) = ap length may.1 in
-    omega (arith, some, k.fits)

@@ -1,5 +1,5 @@
 -- One caller of a session.
-use Rattle.std.specs.Prelude.{◌≡◌, ◌≤◌, []}
+use Rattle.std.specs.Prelude.{◌≡◌, []}
 use Rattle.session_core.specs.Order.{Order, no_order}
 use Rattle.session_core.specs.Replies.{Replies, no_replies}
 use Rattle.redis_session.specs.declared.caller.Caller.{Caller}
@@ -12,8 +12,7 @@ no_calls = record { order = no_order; replies = no_replies }
 abbrev pub HasNothing : Order → Replies → Type 0
 HasNothing order replies = (order.parts ≡ []) × (replies.owed ≡ [])
 
--- The caller has the same parts, and is owed the same replies. Places of replies may be skipped.
+-- The caller has the same parts, and is owed the same replies. A place of a reply may be skipped.
 pub record KeepsCalls (old new : Caller) : Type 0 where
   pub order : new.order ≡ old.order
   pub owed : new.replies.owed ≡ old.replies.owed
-  pub skipped : old.replies.next_place ≤ new.replies.next_place

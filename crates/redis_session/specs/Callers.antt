@@ -1,5 +1,5 @@
 -- The callers of a session, by their numbers.
-use Rattle.std.specs.Prelude.{◌≡◌, ◌≢◌, ◌≤◌, ℕ}
+use Rattle.std.specs.Prelude.{◌≡◌, ◌≢◌, ℕ}
 use Rattle.std.specs.Option.{unwrap_or}
 use Rattle.std.specs.Ordering.{nat_cmp}
 use Rattle.std.specs.BTreeMap.{get}
@@ -30,8 +30,7 @@ pub record OthersKept (caller : ℕ) (old new : Callers) : Type 0 where
   pub order : (other : ℕ) → other ≢ caller → order_of other new ≡ order_of other old
   pub replies : (other : ℕ) → other ≢ caller → replies_of other new ≡ replies_of other old
 
--- Each caller has the same parts, and is owed the same replies. Places of replies may be skipped.
+-- Each caller has the same parts, and is owed the same replies. A place of a reply may be skipped.
 pub record CallsKept (old new : Callers) : Type 0 where
   pub order : (caller : ℕ) → order_of caller new ≡ order_of caller old
   pub owed : (caller : ℕ) → (replies_of caller new).owed ≡ (replies_of caller old).owed
-  pub skipped : (caller : ℕ) → (replies_of caller old).next_place ≤ (replies_of caller new).next_place

@@ -1,6 +1,7 @@
 -- What happens to the links of a session.
 use Rattle.std.specs.Prelude.{◌≡◌, ◌≤◌, ◌⊎◌, ℕ, List, [], Option, Some, length, slice_get}
 use Rattle.session_core.specs.declared.link.Taken.{Taken}
+use Rattle.session_core.specs.declared.link.Ticket.{Ticket}
 use Rattle.session_core.specs.declared.link.Taken.TheVariants.{Nothing, Reply, Broken}
 use Rattle.session_core.specs.Channel.{Channel}
 use Rattle.session_core.specs.Reply.{IsUnfinished, IsForSome}
@@ -34,6 +35,14 @@ pub record HasNoReply (number : ℕ) (links : List (Option Channel)) : Type 0 wh
   pub channel : Channel
   pub there : HasLink links number channel
   pub came : (channel.heard ≡ []) ⊎ (IsForSome channel × IsUnfinished channel.heard × (length channel.heard ≤ channel.most))
+
+-- A whole reply has come on this link, for the first that waits there.
+pub record HasReply (number : ℕ) (links : List (Option Channel)) : Type 0 where
+  pub channel : Channel
+  pub there : HasLink links number channel
+  pub ticket : Ticket
+  pub reply : List ℕ
+  pub answered : link.IsAnswered channel ticket reply
 
 abbrev pub IsTakenOn : ℕ → List (Option Channel) → Taken → List (Option Channel) → Type 0
 IsTakenOn number old Nothing new = HasNoReply number old × (new ≡ old)

@@ -116,5 +116,3 @@ pub record AreOwed (s : State) (places : ℕ → ℕ) (replies : ℕ → Replies
       × (state.is_wanted ≡ true) × (reply.place ≡ places reply.number)
   pub rising : (caller i j : ℕ) (a b : OwedReply) → i < j → slice_get (replies caller).owed i ≡ Some a
       → slice_get (replies caller).owed j ≡ Some b → (a.number < b.number) × (a.place < b.place)
-  pub within : (caller : ℕ) (reply : OwedReply) → Contains (replies caller).owed reply
-      → reply.place < (replies caller).next_place

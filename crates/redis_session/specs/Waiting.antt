@@ -1,7 +1,7 @@
 -- A part that waits to be asked.
-use Rattle.std.specs.Prelude.{◌≡◌, ℕ, true, List, Some, slice_get}
-use Rattle.session_core.specs.Part.{PartState, is_waiting}
-use Rattle.session_core.specs.State.{State, CallState, IsPassed, part_at}
+use Rattle.std.specs.Prelude.{◌≡◌, ◌<◌, ℕ, true, false, List, Some, slice_get}
+use Rattle.session_core.specs.Part.{PartState, is_waiting, is_done}
+use Rattle.session_core.specs.State.{State, CallState, Has, IsPassed}
 use Rattle.redis_session.specs.Ties.{is_ordered}
 use Rattle.session_core.specs.declared.part.PartOrder.TheVariants.{OfSlot}
 use Rattle.redis_session.specs.Calls.{call_in}
@@ -18,6 +18,17 @@ pub record IsOvertakenOn (caller slot call part : ℕ) (s : State) : Type 0 wher
   pub slot_is : passed.it.order ≡ OfSlot slot
   pub waits : is_waiting passed.it.phase ≡ true
 
--- Some part of this call is not free of the order.
-abbrev pub HasOrdered : ℕ → State → Type 0
-HasOrdered call s = (part : ℕ) × (p : PartState) × (part_at call part s ≡ Some p) × (is_ordered p.order ≡ true)
+-- A part of an earlier call of its caller is not done, and neither call is free of the order.
+pub record IsHeldBack (call : ℕ) (s : State) : Type 0 where
+  pub caller : ℕ
+  pub part : ℕ
+  pub it : PartState
+  pub has : Has s caller call part it
+  pub ordered : is_ordered it.order ≡ true
+  pub earlier : ℕ
+  pub earlier_part : ℕ
+  pub other : PartState
+  pub has_earlier : Has s caller earlier earlier_part other
+  pub is_earlier : earlier < call
+  pub earlier_ordered : is_ordered other.order ≡ true
+  pub undone : is_done other.phase ≡ false

@@ -2,12 +2,11 @@
 
 ghost use Rattle.std.specs.Prelude.{◌≡◌, ◌↔◌, ◌<◌, IsTrue, IfOk, OnOk, OnErr, length};
 ghost use Rattle.session_core.specs.Order.{MayJoin, joined};
-ghost use Rattle.session_core.specs.Replies.{owes};
+ghost use Rattle.session_core.specs.Replies.{owes, HaveBegun};
 ghost use Rattle.redis_session.specs.Ties.{end_of};
 ghost use Rattle.redis_session.specs.Caller.{no_calls, HasNothing, KeepsCalls};
 
-use crate::caller_replies::CallerReplies;
-use session_core::{CallerOrder, PartOrder};
+use session_core::{CallerOrder, PartOrder, Replies};
 use std::alloc::{AllocError, Global};
 
 /// Where a call stands among those of its caller.
@@ -23,7 +22,7 @@ pub(crate) struct CallPlaces {
 #[derive(Drop)]
 pub(crate) struct Caller {
     pub(crate) order: CallerOrder,
-    pub(crate) replies: CallerReplies,
+    pub(crate) replies: Replies,
 }
 
 impl Caller {
@@ -33,7 +32,7 @@ impl Caller {
     {
         Caller {
             order: CallerOrder::new(alloc),
-            replies: CallerReplies::new(alloc),
+            replies: Replies::new(alloc),
         }
     }
 
@@ -53,6 +52,7 @@ impl Caller {
         ensures reply { IfOk result (λ places. places.reply ≡ self.old.replies.next_place) }
         ensures joined { OnOk result (self.new.order ≡ joined number orders.now self.old.order) }
         ensures owed { OnOk result (self.new.replies ≡ owes number self.old.replies) }
+        ensures begun { OnOk result (HaveBegun self.old.replies) }
         ensures err { OnErr result (KeepsCalls self.old self.new) }
     {
         let order = self.order.end();

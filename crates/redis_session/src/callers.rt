@@ -1,17 +1,17 @@
 //! The callers of a session.
 
-ghost use Rattle.std.specs.Prelude.{◌≡◌, ◌+◌, ◌≤◌, ◌↔◌, ℕ, IsTrue, Some, None, IfOk, OnOk, OnErr, IfSome, IfNone, slice_get};
+ghost use Rattle.std.specs.Prelude.{◌≡◌, ◌+◌, ◌<◌, ◌≤◌, ◌↔◌, ℕ, true, false, IsTrue, Some, None, IfOk, OnOk, OnErr, IfSome, IfNone, slice_get};
 ghost use Rattle.std.specs.Ordering.{nat_cmp};
 ghost use Rattle.std.specs.BTreeMap.{get};
 ghost use Rattle.session_core.specs.declared.ordered_part.Status.TheVariants.{Waits, Asked, Settled, Unsent};
-ghost use Rattle.session_core.specs.Order.{no_order, ordered_at, MayAsk, MayJoin, IsOf, Offers, NamesWaiting, IsWaiting, IsOnItsWay, IsOvertaken, joined, with_status, trimmed};
-ghost use Rattle.session_core.specs.Replies.{no_replies, owes, without_place, IsOwed};
+ghost use Rattle.session_core.specs.Order.{no_order, IsTrimmed, MayAsk, MayJoin, IsOf, Offers, NamesWaiting, IsWaiting, IsOnItsWay, IsOvertaken, joined, with_status, trimmed};
+ghost use Rattle.session_core.specs.Replies.{no_replies, owes, without_place, HaveBegun, IsOwed};
 ghost use Rattle.redis_session.specs.Ties.{end_of, given_up, OrderGoes};
 ghost use Rattle.redis_session.specs.Callers.{order_of, replies_of, IsIdle, OthersKept, CallsKept};
 
 use crate::caller::{CallPlaces, Caller};
 use crate::giving_up::give_up;
-use session_core::{Askable, CallerOrder, OrderedPart, Overtaken, OwedReply, PartOrder};
+use session_core::{Askable, CallerOrder, Overtaken, OwedReply, PartOrder};
 use std::alloc::{AllocError, Global};
 use std::collections::BTreeMap;
 
@@ -57,6 +57,7 @@ impl Callers {
         ensures reply { IfOk result (λ places. places.reply ≡ (replies_of caller self.old).next_place) }
         ensures joined { OnOk result (order_of caller self.new ≡ joined number orders.now (order_of caller self.old)) }
         ensures owed { OnOk result (replies_of caller self.new ≡ owes number (replies_of caller self.old)) }
+        ensures begun { OnOk result (HaveBegun (replies_of caller self.old)) }
         ensures others { OthersKept caller self.old self.new }
         ensures err { OnErr result (CallsKept self.old self.new) }
     {
@@ -66,13 +67,16 @@ impl Callers {
         }
     }
 
-    /// The part of a caller at a place, if it joined and was not forgotten.
-    pub(crate) fn part(&self, caller: u64, place: u64) -> Option<OrderedPart>
-        ensures { result ≡ ordered_at place (order_of caller self.now) }
+    /// Whether the part of a caller at a place was forgotten in the order. The first part that is left
+    /// there is not done.
+    pub(crate) fn is_past(&self, caller: u64, place: u64) -> bool
+        ensures past { result ≡ true → place < (order_of caller self.now).first }
+        ensures not { result ≡ false → (order_of caller self.now).first ≤ place }
+        ensures front { IsTrimmed (order_of caller self.now) }
     {
         match self.order(caller) {
-            Some(order) => order.part(place),
-            None => None,
+            Some(order) => order.is_past(place),
+            None => false,
         }
     }
 
@@ -85,20 +89,6 @@ impl Callers {
     {
         match self.order(caller) {
             Some(order) => order.askable(place),
-            None => None,
-        }
-    }
-
-    /// The part of a caller on a slot that may be asked now. There is one at most.
-    pub(crate) fn askable_in(&self, caller: u64, slot: u16) -> Option<Askable>
-        ensures may { (place link : ℕ) → Offers result place link
-            → MayAsk place link (order_of caller self.now) × IsOf slot place (order_of caller self.now) }
-        ensures asks { (place link : ℕ) → MayAsk place link (order_of caller self.now)
-            → IsOf slot place (order_of caller self.now) → Offers result place link }
-        ensures seat { IfSome result (λ askable. NamesWaiting askable.place askable.seat (order_of caller self.now)) }
-    {
-        match self.order(caller) {
-            Some(order) => order.askable_in(slot),
             None => None,
         }
     }
@@ -198,7 +188,6 @@ impl Callers {
     pub(crate) fn note_over(&mut self, caller: u64, place: u64)
         requires { IsOwed place (replies_of caller self.old) }
         ensures order { order_of caller self.new ≡ order_of caller self.old }
-        ensures next { (replies_of caller self.new).next_place ≡ (replies_of caller self.old).next_place }
         ensures owed { (replies_of caller self.new).owed ≡ without_place place (replies_of caller self.old).owed }
         ensures others { OthersKept caller self.old self.new }
     {
@@ -253,6 +242,7 @@ impl Callers {
         ensures reply { IfOk result (λ places. places.reply ≡ (replies_of caller self.old).next_place) }
         ensures joined { OnOk result (order_of caller self.new ≡ joined number orders.now (order_of caller self.old)) }
         ensures owed { OnOk result (replies_of caller self.new ≡ owes number (replies_of caller self.old)) }
+        ensures begun { OnOk result (HaveBegun (replies_of caller self.old)) }
         ensures others { OthersKept caller self.old self.new }
         ensures err { OnErr result (CallsKept self.old self.new) }
     {

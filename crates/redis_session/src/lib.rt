@@ -19,7 +19,6 @@
 
 mod call;
 mod caller;
-mod caller_replies;
 mod callers;
 mod calls;
 mod giving_up;

@@ -1,11 +1,11 @@
 //! The links of a session by their numbers.
 
-ghost use Rattle.std.specs.Prelude.{◌≡◌, ◌≢◌, ◌<◌, ◌≤◌, [], ◌∷◌, length, Some, IfOk, OnOk, OnErr, IfSome, IfNone, slice_get};
+ghost use Rattle.std.specs.Prelude.{◌≡◌, ◌≢◌, ◌<◌, ◌≤◌, ℕ, [], ◌∷◌, length, Some, None, IfOk, OnOk, OnErr, IfSome, IfNone, slice_get};
 ghost use Rattle.session_core.specs.declared.link.Standing.TheVariants.{Open, Ended};
 ghost use Rattle.session_core.specs.declared.link.Ticket.TheVariants.{Asking, Part};
 ghost use Rattle.session_core.specs.Channel.{Channel, to_write};
 ghost use Rattle.session_core.specs.LinkEvents.{Put, Write, Hear, Miss, End, Lose, asking};
-ghost use Rattle.redis_session.specs.Links.{HasLink, HappensOn, IsTakenOn, Opens, Forgets};
+ghost use Rattle.redis_session.specs.Links.{HasLink, HasReply, HappensOn, IsTakenOn, Opens, Forgets};
 ghost use Rattle.redis_session.specs.Puts.{put_for};
 
 use session_core::{Link, Standing, Taken, Ticket, Wait};
@@ -20,7 +20,8 @@ pub(crate) struct Links {
 }
 
 impl Model for Links {
-    ghost use Rattle.std.specs.Prelude.{List, Option};
+    ghost use Rattle.std.specs.Prelude.{◌≤◌, List, Option, length};
+    ghost use Rattle.std.specs.Vec.{vec_capacity};
     ghost use Rattle.session_core.specs.Channel.{Channel};
     ghost use Rattle.redis_session.specs.Free.{AreFree};
 
@@ -28,7 +29,7 @@ impl Model for Links {
 
     ghost view = { λ l. l.slots.items };
 
-    ghost invariant = { λ l. AreFree l.free.items l.slots.items };
+    ghost invariant = { λ l. AreFree l.free.items l.slots.items × (length l.slots.items ≤ vec_capacity l.free) };
 }
 
 impl Links {
@@ -42,13 +43,15 @@ impl Links {
         }
     }
 
-    /// Adds a new connection. No reply may have more than `most` bytes. Returns its number.
+    /// Adds a new connection. No reply may have more than `most` bytes. Returns its number, which is a
+    /// free one if there is one.
     ///
     /// # Errors
     ///
     /// If memory runs out. Nothing is added then.
     pub(crate) fn open(&mut self, alloc: Global, most: usize) -> Result<usize, AllocError>
         ensures ok { IfOk result (λ number. Opens number most self.old self.new) }
+        ensures again { IfOk result (λ number. (n : ℕ) → slice_get self.old n ≡ Some None → number < length self.old) }
         ensures err { OnErr result (self.new ≡ self.old) }
     {
         let link = Link::new(alloc, most);
@@ -56,18 +59,20 @@ impl Links {
             self.slots[number] = Some(link);
             return Ok(number);
         }
+        // Then `forget` takes no memory.
+        self.free.reserve(self.slots.len() + 1)?;
         let number = self.slots.len();
         self.slots.push(Some(link))?;
         Ok(number)
     }
 
-    /// Forgets a link. If there is memory to note it, the number is given again.
+    /// Forgets a link. Its number is given again.
     pub(crate) fn forget(&mut self, number: usize)
         requires { (c : Channel) × HasLink self.old number c × (c.standing ≡ Ended) × (c.waits ≡ []) }
         ensures { Forgets number self.old self.new }
     {
         self.slots[number] = None;
-        let _ = self.free.push(number);
+        self.free.push_reserved(number);
     }
 
     /// The link of this number, if there is one.
@@ -183,11 +188,12 @@ impl Links {
     ///
     /// # Errors
     ///
-    /// If memory runs out for the reply. Nothing is taken then.
+    /// If memory runs out for a reply that came whole. Nothing is taken then.
     pub(crate) fn take(&mut self, alloc: Global, number: usize) -> Result<Taken, AllocError>
         requires { (c : Channel) × HasLink self.old number c × (c.standing ≡ Open) }
         ensures taken { IfOk result (λ taken. IsTakenOn number self.old taken self.new) }
         ensures err { OnErr result (self.new ≡ self.old) }
+        ensures cause { OnErr result (HasReply number self.old) }
     {
         let Some(link) = &mut self.slots[number] else {
             unreachable!()

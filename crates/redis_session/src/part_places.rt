@@ -2,7 +2,7 @@
 
 ghost use Rattle.std.specs.Prelude.{◌≡◌, ◌+◌, ◌-◌, ◌^◌, ◌<◌, ◌≤◌, true, false, ℕ, Some, None, IfOk, length, slice_get};
 ghost use Rattle.session_core.specs.declared.ordered_part.Status.TheVariants.{Waits, Asked, Unsent};
-ghost use Rattle.session_core.specs.Order.{MayAsk, OnLink, IsWaiting, IsOnItsWay, ordered_at, with_status, trimmed};
+ghost use Rattle.session_core.specs.Order.{MayAsk, OnLink, IsTrimmed, IsWaiting, IsOnItsWay, with_status, trimmed};
 ghost use Rattle.session_core.specs.declared.part.PartOrder.TheVariants.{Free};
 ghost use Rattle.session_core.specs.declared.replies.OwedReply.{OwedReply};
 ghost use Rattle.session_core.specs.Part.{PartState};
@@ -212,18 +212,17 @@ pub(crate) fn note_given_up(
     }
 }
 
-/// Whether the part at a place was forgotten there, if it is ordered.
+/// Whether the part at a place was forgotten there, if it is ordered. The first part that is left is not
+/// done.
 pub(crate) fn is_past(callers: &Callers, caller: u64, place: u64, order: PartOrder) -> bool
-    ensures yes { result ≡ true → is_ordered order ≡ true → ordered_at place (order_of caller callers.now) ≡ None }
-    ensures no { result ≡ false → is_ordered order ≡ true }
+    ensures yes { result ≡ true → is_ordered order ≡ true → place < (order_of caller callers.now).first }
+    ensures no { result ≡ false → (is_ordered order ≡ true) × ((order_of caller callers.now).first ≤ place)
+        × IsTrimmed (order_of caller callers.now) }
 {
     if !is_ordered(order) {
         return true;
     }
-    match callers.part(caller, place) {
-        Some(_) => false,
-        None => true,
-    }
+    callers.is_past(caller, place)
 }
 
 /// Whether a caller is owed a reply to an earlier call than this.

@@ -7,9 +7,10 @@ ghost use Rattle.session_core.specs.Channel.{Channel, to_write};
 ghost use Rattle.session_core.specs.Part.{PartState, is_waiting};
 ghost use Rattle.redis_session.specs.Ties.{AreOrdered, AreFree};
 ghost use Rattle.session_core.specs.LinkEvents as link;
+ghost use Rattle.redis_session.specs.Links.{HasReply};
 ghost use Rattle.redis_session.specs.Puts.{put_for};
 ghost use Rattle.redis_session.specs.Took.{IsTook};
-ghost use Rattle.redis_session.specs.Waiting.{IsOvertakenOn, HasOrdered};
+ghost use Rattle.redis_session.specs.Waiting.{IsOvertakenOn, IsHeldBack};
 
 use crate::call::Call;
 use crate::caller::CallPlaces;
@@ -76,13 +77,16 @@ impl Session {
         }
     }
 
-    /// Adds a new connection. No reply on it may have more than `most` bytes. Returns its number.
+    /// Adds a new connection. No reply on it may have more than `most` bytes. Returns its number, which is
+    /// a free one if there is one.
     ///
     /// # Errors
     ///
     /// If memory runs out. Nothing is added then.
     pub fn open(&mut self, alloc: Global, most: usize) -> Result<usize, AllocError>
         ensures ok { IfOk result (λ number. Happens self.old (machine.Open number most) self.new) }
+        ensures again { IfOk result (λ number. (n : ℕ) → slice_get self.old.links n ≡ Some None
+            → number < length self.old.links) }
         ensures err { OnErr result (self.new ≡ self.old) }
     {
         self.links.open(alloc, most)
@@ -162,8 +166,8 @@ impl Session {
         self.links.end(number);
     }
 
-    /// Forgets a link that ended and on which nobody waits. Returns whether it did. The number may be
-    /// given again.
+    /// Forgets a link that ended and on which nobody waits. Returns whether it did. The number is given
+    /// again.
     pub fn forget(&mut self, number: usize) -> bool
         ensures forgot { result ≡ true → Happens self.old (Forget number) self.new }
         ensures not { result ≡ false → self.new ≡ self.old }
@@ -275,12 +279,12 @@ impl Session {
     }
 
     /// Forgets the parts of a call that nobody waits for, and whose parts are done. Returns whether it
-    /// did. It does not while an earlier call of its caller is owed a reply, or while an earlier part of
-    /// its caller is not done.
+    /// did. It does not while an earlier call of its caller is owed a reply, or while a part of one is
+    /// not done.
     pub fn leave(&mut self, alloc: Global, call: u64) -> bool
         ensures left { result ≡ true → Happens self.old (Leave call) self.new }
         ensures not { result ≡ false → self.new ≡ self.old }
-        ensures why { result ≡ false → MayLeave call self.old → HasOrdered call self.old }
+        ensures why { result ≡ false → MayLeave call self.old → IsHeldBack call self.old }
     {
         let Some(state) = call_of(self.first, &self.calls, call) else {
             return false;
@@ -413,11 +417,12 @@ impl Session {
     ///
     /// # Errors
     ///
-    /// If memory runs out for the reply. Nothing is taken then.
+    /// If memory runs out for a reply that came whole. Nothing is taken then.
     pub fn take(&mut self, alloc: Global, number: usize) -> Result<Took, AllocError>
         requires { (c : Channel) × IsLink self.old number c × (c.standing ≡ Open) }
         ensures took { IfOk result (λ took. IsTook number self.old took self.new) }
         ensures err { OnErr result (self.new ≡ self.old) }
+        ensures cause { OnErr result (HasReply number self.old.links) }
     {
         match self.links.take(alloc, number)? {
             Taken::Nothing => Ok(Took::Nothing),

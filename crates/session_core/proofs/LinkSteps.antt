@@ -1,5 +1,5 @@
 -- What calls of a link leave is what happens on it.
-use Rattle.std.proofs.Common.{◌≡◌, ◌<◌, ◌≤◌, ◌+◌, ◌++◌, ℕ, List, [], ◌∷◌, length, take, drop, Some, sym, ap, subst, ◌∙◌, refl, append_assoc, append-nil, length-append, length-take, arith}
+use Rattle.std.proofs.Common.{◌≡◌, ◌<◌, ◌≤◌, ◌+◌, ◌++◌, ℕ, List, [], ◌∷◌, length, take, drop, Some, Result, Ok, Err, OnErr, sym, ap, subst, ◌∙◌, refl, append_assoc, append-nil, length-append, length-take, arith}
 use Rattle.std.specs.List.{slice_get}
 use Rattle.std.specs.Fmt.{digits}
 use Rattle.std.proofs.lemmas.List.{take-append-drop}
@@ -8,7 +8,7 @@ use Rattle.session_core.specs.declared.link.Wait.{Wait}
 use Rattle.session_core.specs.declared.link.Standing.TheVariants.{Open}
 use Rattle.session_core.specs.Channel.{Channel}
 use Rattle.session_core.specs.Reply.{IsReply, IsFor, BeginsWith}
-use Rattle.session_core.specs.LinkEvents.{Happens, Put, Take, asking}
+use Rattle.session_core.specs.LinkEvents.{Happens, IsAnswered, Put, Take, asking}
 use Rattle.session_core.specs.Inner.Heard.{Heard}
 
 -- ---- what came
@@ -34,22 +34,31 @@ with_input c waits input = record {
   most = c.most;
 }
 
+-- a whole reply stands at the front, for the first that waits
+pub answers : (c : Channel) (wait : Wait) (len : ℕ) → c.standing ≡ Open → IsFor c wait → IsReply (take len c.heard) × (len ≤ length c.heard) × (len ≤ c.most) → IsAnswered c wait.ticket (take len c.heard)
+answers c wait len opened is_for front = record {
+  wait = wait;
+  is_for = is_for;
+  ticket_is = refl;
+  is_open = opened;
+  came = at_front c.heard len;
+  is = front.0;
+  short = omega (arith, length-take len c.heard, front.1, front.2);
+}
+
 pub takes : (c : Channel) (wait : Wait) (len : ℕ) (waits : List Wait) (reply : List ℕ) (input : Heard) → c.standing ≡ Open → IsFor c wait → IsReply (take len c.heard) × (len ≤ length c.heard) × (len ≤ c.most) → reply ≡ take len c.heard
     → waits ≡ drop 1 c.waits → input ≡ without len c → Happens c (Take wait.ticket reply) (with_input c waits input)
 takes c wait len waits reply input opened is_for front copy popped left =
     let long : length reply ≡ len = omega (arith, ap (length {A = ℕ}) copy, length-take len c.heard, front.1) in
     record {
-      may = record {
-        wait = wait;
-        is_for = is_for;
-        ticket_is = refl;
-        is_open = opened;
-        came = subst (BeginsWith c.heard) (sym copy) (at_front c.heard len);
-        is = subst IsReply (sym copy) front.0;
-        short = omega (arith, long, front.2);
-      };
+      may = subst (IsAnswered c wait.ticket) (sym copy) (answers c wait len opened is_for front);
       is = ap (λ (ws : List Wait). with_input c ws input) popped ∙ ap (with_input c (drop 1 c.waits)) (left ∙ ap (λ (n : ℕ). without n c) (sym long));
     }
+
+-- what holds anyway holds of an error
+pub for_err : {A E P : Type 0} (r : Result A E) → P → OnErr r P
+for_err (Ok a) p = tt
+for_err (Err e) p = p
 
 -- ---- what is asked
 

@@ -12,7 +12,7 @@ use Rattle.session_core.specs.declared.ordered_part.OrderedPart.{OrderedPart}
 use Rattle.session_core.specs.declared.ordered_part.Status.{Status}
 use Rattle.session_core.specs.declared.ordered_part.Status.TheVariants.{Waits, Asked}
 use Rattle.session_core.specs.Part.{have_slot, have_order}
-use Rattle.session_core.specs.Order.{Order, no_order, ordered_at, is_done, is_effective, LetsBy, MayAskAmong, MayAsk, IsOf, Offers, NamesWaiting, IsOnItsWay, with_status, trimmed, trimmed_from}
+use Rattle.session_core.specs.Order.{Order, no_order, ordered_at, is_done, IsTrimmed, is_effective, LetsBy, MayAskAmong, MayAsk, IsOf, Offers, NamesWaiting, IsOnItsWay, with_status, trimmed, trimmed_from}
 use Rattle.session_core.specs.Inner.Tied.{IsSorted, IsBar, IsFirstOver, IsAlone, IsGateKept}
 use Rattle.session_core.proofs.Places.{at_from, at_within, at_there, none_at, dropped_other, changed_same, changed_other, length-changed}
 use Rattle.session_core.proofs.OrderTies.{slot_of_both}
@@ -330,6 +330,9 @@ done_within order barrier place s new g is =
     let many = length-changed (λ (part : OrderedPart). record part { status = s }) (place - order.first) order.parts in
     let end : new.first + length new.parts ≡ order.first + length (with_status place s order).parts = ap (λ (o : Order). o.first + length o.parts) is ∙ trimmed_end (with_status place s order) in
     omega (arith, end, many, g.within)
+
+pub first_open : (order : Order) → (IsFirstOver order → ⊥) → IsTrimmed order
+first_open order front = λ p e. elim (bool_cases (is_done p.status)) [ inl done ↦ absurd (front (p, e, done)) | inr undone ↦ undone ]
 
 pub trim_smaller : (order : Order) → IsFirstOver order → length (drop 1 order.parts) < length order.parts
 trim_smaller order over = let w = at_within order.first order.first order.parts over.0 over.1 in let d = length-drop 1 order.parts in omega (arith, w.1, d)

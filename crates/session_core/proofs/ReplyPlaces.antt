@@ -1,9 +1,9 @@
 -- The replies that are owed, after a call began and after one is owed no more.
-use Rattle.std.proofs.Common.{◌≡◌, ◌<◌, ◌≤◌, ◌+◌, ◌-◌, ◌==◌, ◌++◌, ℕ, zero, suc, true, false, List, [], ◌∷◌, length, length-append, get_or, set, drop, Option, None, Some, refl, sym, ap, ◌∙◌, arith}
+use Rattle.std.proofs.Common.{◌≡◌, ◌<◌, ◌≤◌, ◌+◌, ◌-◌, ◌==◌, ◌++◌, ℕ, zero, suc, true, false, List, [], ◌∷◌, length, length-append, get_or, set, drop, Option, None, Some, refl, sym, ap, subst, ◌∙◌, arith}
 use Rattle.std.specs.List.{slice_get}
 use Rattle.std.proofs.lemmas.Bool.Decides.{nat_tests}
 use Rattle.session_core.specs.declared.replies.OwedReply.{OwedReply}
-use Rattle.session_core.specs.Replies.{Replies, owes, without_place, IsOwed}
+use Rattle.session_core.specs.Replies.{Replies, owes, without_place, HaveBegun, IsOwed}
 use Rattle.session_core.specs.Inner.OwedFrom.{owed_from}
 
 pub owed_pushed : (place number : ℕ) (xs : List (Option ℕ)) → owed_from place (xs ++ Some number ∷ []) ≡ owed_from place xs ++ record { place = place + length xs; number = number } ∷ []
@@ -60,3 +60,6 @@ owed_index first place numbers (number, (k, lt, e)) = owed_within first k number
 pub written : (first place after : ℕ) (numbers new : List (Option ℕ)) → first ≤ place → owed_from after new ≡ owed_from first (set numbers (place - first) None) → owed_from after new ≡ without_place place (owed_from first numbers)
 written first place after numbers new low e =
     e ∙ owed_over first (place - first) numbers ∙ ap (λ p. without_place p (owed_from first numbers)) (let q : first + (place - first) ≡ place = omega arith in q)
+
+pub have_begun : (first : ℕ) (numbers : List (Option ℕ)) (now : Replies) → seen first numbers ≡ now → HaveBegun now
+have_begun first numbers now is = subst HaveBegun is (λ reply among. (owed_within first among.0 numbers reply among.1 among.2).1)

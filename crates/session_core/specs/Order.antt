@@ -132,6 +132,10 @@ trimmed_from first (part ∷ parts) =
 abbrev pub trimmed : Order → Order
 trimmed order = trimmed_from order.first order.parts
 
+-- The first part that is left is not done.
+abbrev pub IsTrimmed : Order → Type 0
+IsTrimmed order = (p : OrderedPart) → ordered_at order.first order ≡ Some p → is_done p.status ≡ false
+
 -- When the parts of a call may join: all that joined are of earlier calls. No two of its parts have the same
 -- slot, and none is free of the order.
 pub record MayJoin (call : ℕ) (orders : List PartOrder) (order : Order) : Type 0 where

@@ -1,5 +1,5 @@
 -- Which calls of one caller are owed a reply, in the order of the calls.
-use Rattle.std.specs.Prelude.{◌+◌, ◌==◌, ◌++◌, ℕ, if◌then◌else◌, List, [], ◌∷◌}
+use Rattle.std.specs.Prelude.{◌+◌, ◌<◌, ◌==◌, ◌++◌, ℕ, if◌then◌else◌, List, [], ◌∷◌}
 use Rattle.std.specs.List.{Contains}
 use Rattle.session_core.specs.declared.replies.OwedReply.{OwedReply}
 
@@ -26,3 +26,7 @@ without_place place (reply ∷ replies) =
 -- the call at this place is owed a reply
 abbrev pub IsOwed : ℕ → Replies → Type 0
 IsOwed place replies = (number : ℕ) × Contains replies.owed (record { place = place; number = number })
+
+-- Only a call that began is owed a reply.
+abbrev pub HaveBegun : Replies → Type 0
+HaveBegun replies = (reply : OwedReply) → Contains replies.owed reply → reply.place < replies.next_place

@@ -114,7 +114,7 @@ impl Model for Link {
 impl Link {
     ghost use Rattle.session_core.specs.Channel.{fresh, written, to_write};
     ghost use Rattle.session_core.specs.Reply.{IsCause};
-    ghost use Rattle.session_core.specs.LinkEvents.{Happens, Put, Write, Hear, Miss, End, Lose, asking};
+    ghost use Rattle.session_core.specs.LinkEvents.{Happens, IsAnswered, Put, Write, Hear, Miss, End, Lose, asking};
     ghost use Rattle.session_core.specs.Taken.{IsTaken};
 
     /// A new connection. No reply may have more than `most` bytes. Takes no memory.
@@ -270,11 +270,13 @@ impl Link {
     ///
     /// # Errors
     ///
-    /// If memory runs out for the reply. Nothing is taken then.
+    /// If memory runs out for a reply that came whole. Nothing is taken then.
     pub fn take(&mut self, alloc: Global) -> Result<Taken, AllocError>
         requires { self.old.standing ≡ Standing.Open }
         ensures taken { IfOk result (λ taken. IsTaken self.old taken self.new) }
         ensures err { OnErr result (self.new ≡ self.old) }
+        ensures cause { OnErr result ((ticket : Ticket) × (reply : List ℕ)
+            × IsAnswered self.old ticket reply) }
     {
         let Some(written) = self.input.written_before() else {
             return Ok(Taken::Nothing);

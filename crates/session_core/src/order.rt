@@ -8,7 +8,7 @@ ghost use Rattle.std.specs.Prelude.{◌≡◌, ◌+◌, ◌<◌, ◌≤◌, ◌-
 ghost use Rattle.session_core.specs.declared.ordered_part.OrderedPart.{OrderedPart};
 ghost use Rattle.session_core.specs.declared.ordered_part.Status.TheVariants.{Waits, Asked, Settled, Unsent};
 ghost use Rattle.session_core.specs.declared.part.PartOrder.TheVariants.{OfSlot, Whole};
-ghost use Rattle.session_core.specs.Order.{no_order, ordered_at, MayAsk, MayJoin, IsOf, Offers, NamesWaiting, IsWaiting, IsOnItsWay, IsOvertaken, joined, with_status, trimmed};
+ghost use Rattle.session_core.specs.Order.{no_order, ordered_at, IsTrimmed, MayAsk, MayJoin, IsOf, Offers, NamesWaiting, IsWaiting, IsOnItsWay, IsOvertaken, joined, with_status, trimmed};
 ghost use Rattle.session_core.specs.Inner.Tied.{IsSorted, IsAlone, IsBar, IsFirstOver, AreLastOpen, first_parts};
 
 use crate::ordered_part::{Askable, OrderedPart, Overtaken, Seat, Status};
@@ -67,6 +67,16 @@ impl CallerOrder {
         ensures { result ≡ ordered_at place self.now }
     {
         self.parts.part(place)
+    }
+
+    /// Whether the part at a place was forgotten. The first part that is left is not done.
+    pub fn is_past(&self, place: u64) -> bool
+        ensures past { result ≡ true → place < self.now.first }
+        ensures not { result ≡ false → self.now.first ≤ place }
+        ensures front { IsTrimmed self.now }
+    {
+        let _ = &self.barrier;
+        place < self.parts.first()
     }
 
     /// Adds the parts of a call at the end, each of which waits. The first one gets the place

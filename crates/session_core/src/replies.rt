@@ -1,7 +1,7 @@
 //! The order of the replies to one caller.
 
 ghost use Rattle.std.specs.Prelude.{◌≡◌, ◌+◌, ◌<◌, ◌^◌, true, false, ℕ, List, Option, None, Some, IfOk, OnOk, OnErr, length, set, slice_get};
-ghost use Rattle.session_core.specs.Replies.{no_replies, owes, without_place, IsOwed};
+ghost use Rattle.session_core.specs.Replies.{no_replies, owes, without_place, HaveBegun, IsOwed};
 ghost use Rattle.session_core.specs.Inner.OwedFrom.{owed_from};
 
 use std::alloc::{AllocError, Global};
@@ -59,6 +59,7 @@ impl Replies {
     pub fn begin(&mut self, number: u64) -> Result<u64, AllocError>
         ensures place { IfOk result (λ place. place ≡ self.old.next_place) }
         ensures owed { OnOk result (self.new ≡ owes number self.old) }
+        ensures begun { HaveBegun self.old }
         ensures err { OnErr result (self.new ≡ self.old) }
     {
         let place = self.first + self.numbers.len() as u64;

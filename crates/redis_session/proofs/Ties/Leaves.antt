@@ -18,24 +18,15 @@ abbrev pub IsPast : (s : State) (places : ℕ → ℕ) (orders : ℕ → Order) 
 IsPast s places orders call = (caller part : ℕ) (p : PartState) → Has s caller call part p → is_ordered p.order ≡ true → places call + part < (orders caller).first
 
 -- It is so if the last one was.
-pub past_by_last : {s : State} {places : ℕ → ℕ} {orders : ℕ → Order} (call caller : ℕ) (state : CallState) → AreTied s places orders → call_at call s ≡ Some state → state.caller ≡ caller
-    → ordered_at (places call + (length state.parts - 1)) (orders caller) ≡ None → IsPast s places orders call
-past_by_last {s = s} {places = places} {orders = orders} call caller state t is own none other part p has o =
+pub past_by_last : {s : State} (places : ℕ → ℕ) (orders : ℕ → Order) (call caller : ℕ) (state : CallState) → call_at call s ≡ Some state → state.caller ≡ caller
+    → places call + (length state.parts - 1) < (orders caller).first → IsPast s places orders call
+past_by_last places orders call caller state is own gone other part p has o =
     let one : has.state ≡ state = same_call has.state state (sym has.call_is ∙ is) in
     let same : other ≡ caller = sym has.caller_is ∙ ap (λ (c : CallState). c.caller) one ∙ own in
     let some = part_within has in
     let many : length has.state.parts ≡ length state.parts = ap (λ (c : CallState). length c.parts) one in
-    let last = part_of has (length has.state.parts - 1) (omega (arith, some)) in
-    let ordered : is_ordered last.0.order ≡ true = sym (t.alike other call part (length has.state.parts - 1) p last.0 has last.1) ∙ o in
-    elim (cases_lt (places call + (length has.state.parts - 1)) (orders other).first) [
-      | inl gone ↦ omega (arith, gone, some)
-      | inr here ↦
-          let at : places call + (length has.state.parts - 1) ≡ places call + (length state.parts - 1) = ap (λ n. places call + (n - 1)) many in
-          let no : None ≡ Some (ordered_part call (length has.state.parts - 1) last.0) =
-          sym none ∙ ap (λ n. ordered_at n (orders caller)) (sym at) ∙ ap (λ c. ordered_at (places call + (length has.state.parts - 1)) (orders c)) (sym same)
-          ∙ t.stands other call (length has.state.parts - 1) last.0 last.1 ordered here in
-          absurd (cc)
-    ]
+    let first : (orders other).first ≡ (orders caller).first = ap (λ c. (orders c).first) same in
+    omega (arith, gone, some, many, first)
 
 -- and of a call of which no part is ordered
 pub past_free : (s : State) (places : ℕ → ℕ) (orders : ℕ → Order) (call : ℕ) → ((caller part : ℕ) (p : PartState) → Has s caller call part p → is_ordered p.order ≡ false) → IsPast s places orders call

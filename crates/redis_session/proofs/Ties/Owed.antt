@@ -9,7 +9,7 @@ use Rattle.std.proofs.lemmas.List.Elements.{Contains-append_left, Contains-push,
 use Rattle.resp_core.proofs.Cases.{by_test, and_first, and_second}
 use Rattle.session_core.specs.declared.replies.OwedReply.{OwedReply}
 use Rattle.session_core.specs.Part.{PartState}
-use Rattle.session_core.specs.Replies.{Replies, no_replies, owes, without_place, IsOwed}
+use Rattle.session_core.specs.Replies.{Replies, no_replies, owes, without_place, HaveBegun, IsOwed}
 use Rattle.session_core.specs.State.{CallState, State, Event, Begin, GiveUp, Finish, IsTurn, start, begun, call_at, unwants, May, after}
 use Rattle.session_core.proofs.AfterEvents.{has_begun, not_begun, new_calls, begun_after, call_goes, call_came, call_new, begins, same_call, nothing_in}
 use Rattle.session_core.proofs.PlaceLists.{get_before, get_pushed_last, at_index}
@@ -188,16 +188,12 @@ turn_is_first {places = places} {replies = replies} caller call o held turn =
 
 -- ---- events that end no call which is wanted
 
--- Each caller is owed the same replies. Places may be skipped.
-pub record AreSameOwed (old new : ℕ → Replies) : Type 0 where
-  pub owed : (caller : ℕ) → (new caller).owed ≡ (old caller).owed
-  pub skipped : (caller : ℕ) → (old caller).next_place ≤ (new caller).next_place
+-- Each caller is owed the same replies.
+abbrev pub AreSameOwed : (ℕ → Replies) → (ℕ → Replies) → Type 0
+AreSameOwed old new = (caller : ℕ) → (new caller).owed ≡ (old caller).owed
 
 pub same_owed : (old new : ℕ → Replies) → ((caller : ℕ) → new caller ≡ old caller) → AreSameOwed old new
-same_owed old new same = record {
-  owed = λ caller. ap (λ (r : Replies). r.owed) (same caller);
-  skipped = λ caller. let e : (new caller).next_place ≡ (old caller).next_place = ap (λ (r : Replies). r.next_place) (same caller) in omega (arith, e);
-}
+same_owed old new same = λ caller. ap (λ (r : Replies). r.owed) (same caller)
 
 pub owed_kept : {s : State} {places : ℕ → ℕ} {replies : ℕ → Replies} (e : Event) (new : ℕ → Replies) → AreOwed s places replies → May e s → new_calls e ≡ 0
     → ((caller call : ℕ) → IsHeld s caller call → unwants call e ≡ false) → AreSameOwed replies new → AreOwed (after e s) places new
@@ -205,15 +201,12 @@ owed_kept {s = s} {places = places} {replies = replies} e new o may none stays s
   wanted = λ call state is w.
       let now : IsHeld (after e s) state.caller call = record { state = state; call_is = is; caller_is = refl; wanted = w } in
       let was = held_before e may (held_bound s e may none now) now in
-      subst (λ rs. Contains rs (record { place = places call; number = call })) (sym (same.owed state.caller)) (owed_of o was.0);
+      subst (λ rs. Contains rs (record { place = places call; number = call })) (sym (same state.caller)) (owed_of o was.0);
   comes = λ caller reply c.
-      let was = held_of caller reply o (subst (λ rs. Contains rs reply) (same.owed caller) c) in
+      let was = held_of caller reply o (subst (λ rs. Contains rs reply) (same caller) c) in
       let now = held_after e may (stays caller reply.number was.0) was.0 in
       (now.state, now.call_is, now.caller_is, now.wanted, was.1);
-  rising = λ caller i j a b lt ea eb. o.rising caller i j a b lt (ap (λ rs. slice_get rs i) (sym (same.owed caller)) ∙ ea) (ap (λ rs. slice_get rs j) (sym (same.owed caller)) ∙ eb);
-  within = λ caller reply c.
-      let less = o.within caller reply (subst (λ rs. Contains rs reply) (same.owed caller) c) in
-      omega (arith, less, same.skipped caller);
+  rising = λ caller i j a b lt ea eb. o.rising caller i j a b lt (ap (λ rs. slice_get rs i) (sym (same caller)) ∙ ea) (ap (λ rs. slice_get rs j) (sym (same caller)) ∙ eb);
 }
 
 -- ---- a call is owed its reply no more
@@ -222,21 +215,10 @@ owed_kept {s = s} {places = places} {replies = replies} e new o may none stays s
 pub record IsOver (caller place : ℕ) (old new : ℕ → Replies) : Type 0 where
   pub owed : (new caller).owed ≡ without_place place (old caller).owed
   pub others : (other : ℕ) → other ≢ caller → (new other).owed ≡ (old other).owed
-  pub skipped : (other : ℕ) → (old other).next_place ≤ (new other).next_place
 
-pub over_of : (caller place : ℕ) (old new : ℕ → Replies) → (new caller).owed ≡ without_place place (old caller).owed → (new caller).next_place ≡ (old caller).next_place → ((other : ℕ) → other ≢ caller → new other ≡ old other)
+pub over_of : (caller place : ℕ) (old new : ℕ → Replies) → (new caller).owed ≡ without_place place (old caller).owed → ((other : ℕ) → other ≢ caller → new other ≡ old other)
     → IsOver caller place old new
-over_of caller place old new owed next others = record {
-  owed = owed;
-  others = λ other ne. ap (λ (r : Replies). r.owed) (others other ne);
-  skipped = λ other. elim (cases_eq other caller) [
-    | inl same ↦
-        let a : (new other).next_place ≡ (new caller).next_place = ap (λ c. (new c).next_place) same in
-        let b : (old other).next_place ≡ (old caller).next_place = ap (λ c. (old c).next_place) same in
-        omega (arith, a, b, next)
-    | inr ne ↦ let a : (new other).next_place ≡ (old other).next_place = ap (λ (r : Replies). r.next_place) (others other ne) in omega (arith, a)
-  ];
-}
+over_of caller place old new owed others = record { owed = owed; others = λ other ne. ap (λ (r : Replies). r.owed) (others other ne) }
 
 pub owed_over : {s : State} {places : ℕ → ℕ} {replies : ℕ → Replies} {caller call : ℕ} (e : Event) (new : ℕ → Replies) → AreOwed s places replies → May e s → new_calls e ≡ 0 → IsHeld s caller call
     → unwants call e ≡ true → ((n : ℕ) → n ≢ call → unwants n e ≡ false) → IsOver caller (places call) replies new → AreOwed (after e s) places new
@@ -264,9 +246,6 @@ owed_over {s = s} {places = places} {replies = replies} {caller = caller} {call 
         o.rising caller two.0 two.1 a b two.2 two.3 two.4
     | inr other ↦ o.rising c i j a b lt (ap (λ xs. slice_get xs i) (sym (over.others c other)) ∙ ea) (ap (λ xs. slice_get xs j) (sym (over.others c other)) ∙ eb)
   ];
-  within = λ c reply among_new.
-      let less = o.within c reply (was_among c reply among_new) in
-      omega (arith, less, over.skipped c);
 }
   where
     left_of : (reply : OwedReply) → Contains (new caller).owed reply → Contains (replies caller).owed reply × (reply.place ≢ places call)
@@ -300,41 +279,21 @@ pub owed_given_up : {s : State} {places : ℕ → ℕ} {replies : ℕ → Replie
     → IsOver caller (places call) replies new → AreOwed (after (GiveUp call) s) places new
 owed_given_up {call = call} new o may held over = owed_over (GiveUp call) new o may refl held (eq-eqb call call refl) (λ n ne. let t : eqb call n ≡ false = grind (arith, nat_tests) in t) over
 
--- a call that nobody wants is given up once more
-pub owed_given_up_again : {s : State} {places : ℕ → ℕ} {replies : ℕ → Replies} (call : ℕ) (new : ℕ → Replies) → AreOwed s places replies → May (GiveUp call) s → ((state : CallState) → call_at call s ≡ Some state → state.is_wanted ≡ false)
-    → AreSameOwed replies new → AreOwed (after (GiveUp call) s) places new
-owed_given_up_again {s = s} call new o may unwanted same =
-    owed_kept (GiveUp call) new o may refl
-    (λ caller n w. by_test (eqb call n)
-    (λ k. absurd (false≢true (sym (unwanted w.state (ap (λ m. call_at m s) (eqb-true call n k) ∙ w.call_is)) ∙ w.wanted)))
-    (λ k. k))
-    same
-
 -- ---- a call begins
 
 -- The caller is owed one reply more, and others the same.
 pub record IsMore (caller call : ℕ) (old new : ℕ → Replies) : Type 0 where
   pub owed : (new caller).owed ≡ (owes call (old caller)).owed
-  pub next : (new caller).next_place ≡ (old caller).next_place + 1
   pub others : (other : ℕ) → other ≢ caller → (new other).owed ≡ (old other).owed
-  pub skipped : (other : ℕ) → (old other).next_place ≤ (new other).next_place
 
 pub more_of : (caller call : ℕ) (old new : ℕ → Replies) → new caller ≡ owes call (old caller) → ((other : ℕ) → other ≢ caller → new other ≡ old other) → IsMore caller call old new
 more_of caller call old new is others = record {
   owed = ap (λ (r : Replies). r.owed) is;
-  next = ap (λ (r : Replies). r.next_place) is;
   others = λ other ne. ap (λ (r : Replies). r.owed) (others other ne);
-  skipped = λ other. elim (cases_eq other caller) [
-    | inl same ↦
-        let a : (new other).next_place ≡ (old caller).next_place + 1 = ap (λ c. (new c).next_place) same ∙ ap (λ (r : Replies). r.next_place) is in
-        let b : (old other).next_place ≡ (old caller).next_place = ap (λ c. (old c).next_place) same in
-        omega (arith, a, b)
-    | inr ne ↦ let a : (new other).next_place ≡ (old other).next_place = ap (λ (r : Replies). r.next_place) (others other ne) in omega (arith, a)
-  ];
 }
 
 module _ {s : State} {places : ℕ → ℕ} {replies : ℕ → Replies} (call caller : ℕ) (parts : List PartState) (new : ℕ → Replies) (moved : ℕ → ℕ) (o : AreOwed s places replies) (may : May (Begin call caller parts) s)
-    (more : IsMore caller call replies new) (place : moved call ≡ (replies caller).next_place) (stays : (n : ℕ) → n ≢ call → moved n ≡ places n) where
+    (more : IsMore caller call replies new) (below : HaveBegun (replies caller)) (place : moved call ≡ (replies caller).next_place) (stays : (n : ℕ) → n ≢ call → moved n ≡ places n) where
   older : (c n : ℕ) → IsHeld s c n → n < call
   older c n w = omega (arith, has_begun n s w.state w.call_is, may.0)
 
@@ -379,7 +338,7 @@ module _ {s : State} {places : ℕ → ℕ} {replies : ℕ → Replies} (call ca
             let there = among_at (replies caller).owed i a first in
             let held = held_of caller a o there in (
               omega (arith, older caller a.number held.0, ap (λ (x : OwedReply). x.number) is),
-              omega (arith, o.within caller a there, ap (λ (x : OwedReply). x.place) is),
+              omega (arith, below a there, ap (λ (x : OwedReply). x.place) is),
             )
       ]
 
@@ -419,39 +378,24 @@ module _ {s : State} {places : ℕ → ℕ} {replies : ℕ → Replies} (call ca
           rising_more i j a b lt (ap (λ xs. slice_get xs i) (sym rs) ∙ ea) (ap (λ xs. slice_get xs j) (sym rs) ∙ eb)
       | inr ne ↦ o.rising c i j a b lt (ap (λ xs. slice_get xs i) (sym (more.others c ne)) ∙ ea) (ap (λ xs. slice_get xs j) (sym (more.others c ne)) ∙ eb)
     ];
-    within = λ c reply now. elim (new_reply c reply now) [
-      | inl was ↦ let less = o.within c reply was in omega (arith, less, more.skipped c)
-      | inr last ↦ omega (arith, ap (λ (x : OwedReply). x.place) last.1, ap (λ m. (new m).next_place) last.0, more.next)
-    ];
   }
 
--- ---- the start, and what places are told by
+-- ---- the start
 
 pub owed_start : (places : ℕ → ℕ) (replies : ℕ → Replies) → ((caller : ℕ) → replies caller ≡ no_replies) → AreOwed start places replies
 owed_start places replies none = record {
   wanted = λ call state is w. let no : None ≡ Some state = sym (not_begun call start (omega arith)) ∙ is in absurd (cc);
   comes = λ caller reply c. absurd (nothing caller reply c);
   rising = λ caller i j a b lt ea eb. let no : None ≡ Some a = ap (λ (r : Replies). slice_get r.owed i) (sym (none caller)) ∙ ea in absurd (cc);
-  within = λ caller reply c. absurd (nothing caller reply c);
 }
   where
     nothing : (caller : ℕ) (reply : OwedReply) → Contains (replies caller).owed reply → ⊥
     nothing caller reply c = nothing_in reply (subst (λ (r : Replies). Contains r.owed reply) (none caller) c)
 
--- places may be told by another function that agrees on the calls that are wanted
-pub owed_places : {s : State} {places : ℕ → ℕ} {replies : ℕ → Replies} (other : ℕ → ℕ) → AreOwed s places replies → ((call : ℕ) (state : CallState) → call_at call s ≡ Some state → state.is_wanted ≡ true → other call ≡ places call) → AreOwed s other replies
-owed_places {replies = replies} other o same = record {
-  wanted = λ call state is w. subst (λ p. Contains (replies state.caller).owed (record { place = p; number = call })) (sym (same call state is w)) (o.wanted call state is w);
-  comes = λ caller reply c. let h = o.comes caller reply c in (h.0, h.1, h.2, h.3, h.4 ∙ sym (same reply.number h.0 h.1 h.3));
-  rising = o.rising;
-  within = o.within;
-}
-
--- places may be skipped, and nothing happens
-pub owed_skipped : {s : State} {places : ℕ → ℕ} {replies : ℕ → Replies} (new : ℕ → Replies) → AreOwed s places replies → AreSameOwed replies new → AreOwed s places new
-owed_skipped {places = places} new o same = record {
-  wanted = λ call state is w. subst (λ rs. Contains rs (record { place = places call; number = call })) (sym (same.owed state.caller)) (o.wanted call state is w);
-  comes = λ caller reply c. o.comes caller reply (subst (λ rs. Contains rs reply) (same.owed caller) c);
-  rising = λ caller i j a b lt ea eb. o.rising caller i j a b lt (ap (λ rs. slice_get rs i) (sym (same.owed caller)) ∙ ea) (ap (λ rs. slice_get rs j) (sym (same.owed caller)) ∙ eb);
-  within = λ caller reply c. let less = o.within caller reply (subst (λ rs. Contains rs reply) (same.owed caller) c) in omega (arith, less, same.skipped caller);
+-- nothing happens
+pub owed_same : {s : State} {places : ℕ → ℕ} {replies : ℕ → Replies} (new : ℕ → Replies) → AreOwed s places replies → AreSameOwed replies new → AreOwed s places new
+owed_same {places = places} new o same = record {
+  wanted = λ call state is w. subst (λ rs. Contains rs (record { place = places call; number = call })) (sym (same state.caller)) (o.wanted call state is w);
+  comes = λ caller reply c. o.comes caller reply (subst (λ rs. Contains rs reply) (same caller) c);
+  rising = λ caller i j a b lt ea eb. o.rising caller i j a b lt (ap (λ rs. slice_get rs i) (sym (same caller)) ∙ ea) (ap (λ rs. slice_get rs j) (sym (same caller)) ∙ eb);
 }

@@ -274,22 +274,7 @@ tied_start places orders none = record {
     nothing : (caller call part : ℕ) (p : PartState) → Has start caller call part p → ⊥
     nothing caller call part p has = let no : None ≡ Some has.state = sym (not_begun call start (omega arith)) ∙ has.call_is in cc
 
--- places may be told by another function that agrees on the calls that are there
-pub tied_places : {s : State} {places : ℕ → ℕ} {orders : ℕ → Order} (other : ℕ → ℕ) → AreTied s places orders → ((caller call part : ℕ) (p : PartState) → Has s caller call part p → other call ≡ places call) → AreTied s other orders
-tied_places {s = s} {places = places} {orders = orders} other t same = record {
-  forgotten = λ caller call part p has o lt. t.forgotten caller call part p has o (subst (λ n. n + part < (orders caller).first) (same caller call part p has) lt);
-  stands = λ caller call part p has o le.
-      ap (λ n. ordered_at (n + part) (orders caller)) (same caller call part p has)
-      ∙ t.stands caller call part p has o (subst (λ n. (orders caller).first ≤ n + part) (same caller call part p has) le);
-  comes = λ caller at x e.
-      let c = t.comes caller at x e in
-      (c.0, c.1, c.2, c.3, c.4 ∙ ap (λ n. n + x.seat.part) (sym (same caller x.seat.call x.seat.part c.0 c.1)));
-  rising = λ caller first second i j p q lt hp hq op oq.
-      omega (arith, t.rising caller first second i j p q lt hp hq op oq, same caller first i p hp, same caller second j q hq);
-  alike = t.alike;
-}
-
--- and the orders by another that is the same for each caller
+-- the orders may be told by another function that is the same for each caller
 pub tied_orders : {s : State} {places : ℕ → ℕ} {orders : ℕ → Order} (other : ℕ → Order) → AreTied s places orders → ((caller : ℕ) → other caller ≡ orders caller) → AreTied s places other
 tied_orders {s = s} {places = places} {orders = orders} other t same = record {
   forgotten = λ caller call part p has o lt. t.forgotten caller call part p has o (subst (λ (x : Order). places call + part < x.first) (same caller) lt);

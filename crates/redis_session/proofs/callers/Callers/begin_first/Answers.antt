@@ -1,6 +1,6 @@
 use Rattle.std.proofs.Common.{sym, ap, subst, ◌∙◌}
 use Rattle.session_core.specs.Order.{MayJoin, joined}
-use Rattle.session_core.specs.Replies.{Replies, owes}
+use Rattle.session_core.specs.Replies.{Replies, owes, HaveBegun}
 use Rattle.redis_session.specs.Ties.{end_of}
 use Rattle.redis_session.proofs.CallerMaps.{order_by, missing, written, others_same, err_same}
 use Rattle.redis_session.proofs.callers.Callers.begin_first.Goals as goal
@@ -45,3 +45,9 @@ returns-clause-others c =
     let none = missing c.args.caller c.args.self.now (sym c.requires.unknown) ∙ sym c.new-entry.ensures in
     let w = written c.args.caller c.new-entry.result c.begin.new.self c.args.self.now (record { callers = c.insert.new.self }) none c.in_ok-insert.ensures.updates in
     w.others
+
+pub returns-clause-begun : goal.returns-clause-begun
+returns-clause-begun c =
+    let none = missing c.args.caller c.args.self.now (sym c.requires.unknown) ∙ sym c.new-entry.ensures in
+    let w = written c.args.caller c.new-entry.result c.begin.new.self c.args.self.now (record { callers = c.insert.new.self }) none c.in_ok-insert.ensures.updates in
+    subst HaveBegun (sym w.was_replies) c.in_ok-places.ensures.begun

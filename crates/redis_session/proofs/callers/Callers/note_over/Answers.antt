@@ -17,13 +17,6 @@ returns-in-Some-clause-order c =
     let w = lent c.args.caller c.args.self.now (c.get_mut.follows.lender now) was now c.in-Some.ensures.value (c.get_mut.follows.holds now) in
     w.order ∙ sym w.was_order
 
-pub returns-in-Some-clause-next : goal.returns-in-Some-clause-next
-returns-in-Some-clause-next c =
-    let was = c.in-Some.entry.now in
-    let now : Caller = record { order = was.order; replies = c.note_over.new.self } in
-    let w = lent c.args.caller c.args.self.now (c.get_mut.follows.lender now) was now c.in-Some.ensures.value (c.get_mut.follows.holds now) in
-    ap (λ (r : Replies). r.next_place) w.replies ∙ c.note_over.ensures.next ∙ ap (λ (r : Replies). r.next_place) (sym w.was_replies)
-
 pub returns-in-Some-clause-owed : goal.returns-in-Some-clause-owed
 returns-in-Some-clause-owed c =
     let was = c.in-Some.entry.now in

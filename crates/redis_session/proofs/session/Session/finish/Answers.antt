@@ -37,7 +37,6 @@ invariant_of-self c =
     finish_kept s c.self.invariant c.args.call it c.in-Some-next_reply.next c.note_replied.new.calls.items c.in-Some.ensures.some wanted none_waits is c.if-next-call.false c.note_replied.ensures new
     (subst (λ (n : ℕ). order_of n new ≡ order_of n old) own o.order)
     (subst (λ (n : ℕ). (replies_of n new).owed ≡ without_place c.in-Some-next_reply.next.place (replies_of n old).owed) own o.owed)
-    (subst (λ (n : ℕ). (replies_of n new).next_place ≡ (replies_of n old).next_place) own o.next)
     (subst (λ (n : ℕ). OthersKept n old new) own o.others)
 
 pub returns-clause-finished : goal.returns-clause-finished

@@ -78,7 +78,6 @@ invariant_of-self c =
     give_kept s k c.args.call state order c.place_of-place.result (length c.parts-count.result.now) call_is first count_is c.place_of-place.ensures c.give_up.new.calls.items mid new reply wanted c.reply_place-reply.ensures c.give_up.ensures goes
     (subst (λ (n : ℕ). order_of n new ≡ order_of n mid) own o.order)
     (subst (λ (n : ℕ). (replies_of n new).owed ≡ without_place reply (replies_of n mid).owed) own o.owed)
-    (subst (λ (n : ℕ). (replies_of n new).next_place ≡ (replies_of n mid).next_place) own o.next)
     (subst (λ (n : ℕ). OthersKept n mid new) own o.others)
 
 pub returns-clause-gave_up : goal.returns-clause-gave_up

@@ -1,7 +1,7 @@
 use Rattle.std.proofs.Common.{◌≡◌, ◌<◌, ◌≤◌, ◌-◌, ◌^◌, ℕ, true, false, None, Some, length, ap, sym, ◌∙◌, subst, arith}
 use Rattle.std.specs.List.{slice_get}
 use Rattle.session_core.specs.declared.replies.OwedReply.{OwedReply}
-use Rattle.session_core.specs.Order.{ordered_at}
+use Rattle.session_core.specs.Order.{IsTrimmed}
 use Rattle.session_core.specs.State.{State, CallState, left_call}
 use Rattle.redis_session.specs.Callers.{order_of, replies_of}
 use Rattle.redis_session.specs.Ties.{is_ordered}
@@ -9,7 +9,7 @@ use Rattle.redis_session.specs.Calls.{with_call}
 use Rattle.redis_session.specs.Kept.{IsPlace}
 use Rattle.redis_session.proofs.Keeping.{call_stands}
 use Rattle.redis_session.proofs.GivingUp.{IsFirstOrder, call_fits}
-use Rattle.redis_session.proofs.Leaving.{leave_happens, leave_kept, not_before, some_ordered}
+use Rattle.redis_session.proofs.Leaving.{leave_happens, leave_kept, not_before, held_back}
 use Rattle.redis_session.proofs.session.Session.leave.Goals as goal
 
 pub place_of-place-requires-clause-within : goal.place_of-place-requires-clause-within
@@ -49,8 +49,8 @@ invariant_of-self c =
     let calls_are : c.replace.new.calls.items ≡ with_call c.args.call s.first (λ _. left_call) s.calls = c.replace.ensures ∙ ap (λ (x : CallState). with_call c.args.call s.first (λ _. x) s.calls) c.left.ensures in
     let at : IsPlace s.first c.args.call (length state.parts - 1) c.self.inside.places.items order c.place_of-place.result =
     subst (λ (n : ℕ). IsPlace s.first c.args.call n c.self.inside.places.items order c.place_of-place.result) last_is c.place_of-place.ensures in
-    let gone : is_ordered order ≡ true → ordered_at c.place_of-place.result (order_of state.caller old) ≡ None =
-    subst (λ (n : ℕ). is_ordered order ≡ true → ordered_at c.place_of-place.result (order_of n old) ≡ None) own (c.is_past.ensures.yes c.if-not-is_past.false) in
+    let gone : is_ordered order ≡ true → c.place_of-place.result < (order_of state.caller old).first =
+    subst (λ (n : ℕ). is_ordered order ≡ true → c.place_of-place.result < (order_of n old).first) own (c.is_past.ensures.yes c.if-not-is_past.false) in
     leave_kept s k c.args.call state order c.place_of-place.result c.replace.new.calls.items call_is unwanted done next calls_are first at gone
 
 pub returns-clause-left : goal.returns-clause-left
@@ -87,4 +87,11 @@ returns-then-not-is_past-clause-why c = λ _ may.
     let state = c.in-Some.state.now in
     let order = c.first_order-order.result in
     let first : IsFirstOrder state.parts order = record { some = c.first_order-order.ensures.some; none = c.first_order-order.ensures.none } in
-    some_ordered s c.args.self.now c.args.call state order c.self.view_is c.in-Some.ensures.some first (c.is_past.ensures.no c.if-not-is_past.true)
+    let own : c.caller-caller.result ≡ state.caller = c.caller-caller.ensures in
+    let last_is : c.saturating_sub-last.result ≡ length state.parts - 1 = c.saturating_sub-last.ensures ∙ ap (λ n. n - 1) (ap length c.parts.ensures) in
+    let at : IsPlace s.first c.args.call (length state.parts - 1) c.self.inside.places.items order c.place_of-place.result =
+    subst (λ (n : ℕ). IsPlace s.first c.args.call n c.self.inside.places.items order c.place_of-place.result) last_is c.place_of-place.ensures in
+    let no = c.is_past.ensures.no c.if-not-is_past.true in
+    held_back s c.args.self.now k c.args.call state order c.place_of-place.result c.self.view_is c.in-Some.ensures.some may first at no.0
+    (subst (λ (n : ℕ). (order_of n c.self.inside.callers).first ≤ c.place_of-place.result) own no.1)
+    (subst (λ (n : ℕ). IsTrimmed (order_of n c.self.inside.callers)) own no.2)

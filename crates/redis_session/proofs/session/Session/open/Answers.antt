@@ -1,3 +1,6 @@
+use Rattle.std.proofs.Common.{◌≡◌, ◌<◌, ℕ, List, Option, None, Some, length, subst}
+use Rattle.std.specs.List.{slice_get}
+use Rattle.session_core.specs.Channel.{Channel}
 use Rattle.session_core.specs.State.{State}
 use Rattle.redis_session.proofs.Outcomes.{if_ok, by_value}
 use Rattle.redis_session.proofs.Keeping.{open_happens, open_kept, same_links_kept}
@@ -12,3 +15,7 @@ pub returns-clause-ok : goal.returns-clause-ok
 returns-clause-ok c =
     let s : State = record { links = c.self.inside.links; first = c.self.inside.first; calls = c.self.inside.calls.items } in
     if_ok c.open.result c.open.ensures.ok (λ number h. open_happens s c.args.self.now number c.args.most c.open.new.self c.self.view_is h)
+
+pub returns-clause-again : goal.returns-clause-again
+returns-clause-again c =
+    if_ok c.open.result c.open.ensures.again (λ number h. subst (λ (t : State). (n : ℕ) → slice_get t.links n ≡ Some None → number < length t.links) c.self.view_is h)

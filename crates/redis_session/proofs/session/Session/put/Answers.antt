@@ -13,7 +13,7 @@ use Rattle.redis_session.specs.Waiting.{WaitsThere}
 use Rattle.redis_session.specs.Kept.{IsPlace, PartGoes}
 use Rattle.redis_session.proofs.Keeping.{place_fits}
 use Rattle.redis_session.proofs.Asking.{has_of, may_be_asked, not_offered, put_happens, put_kept}
-use Rattle.redis_session.proofs.Outcomes.{for_err}
+use Rattle.session_core.proofs.LinkSteps.{for_err}
 use Rattle.std.proofs.lemmas.Bool.Decides.{nat_tests}
 use Rattle.redis_session.proofs.session.Session.put.Goals as goal
 

@@ -4,7 +4,8 @@ use Rattle.session_core.specs.declared.link.Ticket.TheVariants.{Login, Map, Aski
 use Rattle.session_core.specs.LinkEvents as link
 use Rattle.session_core.specs.State.{State}
 use Rattle.session_core.specs.declared.link.Taken.{Taken}
-use Rattle.redis_session.specs.Links.{HappensOn, IsTakenOn}
+use Rattle.redis_session.specs.Links.{HasReply, HappensOn, IsTakenOn}
+use Rattle.session_core.proofs.LinkSteps.{for_err}
 use Rattle.redis_session.proofs.Keeping.{quiet_happens, quiet_kept}
 use Rattle.redis_session.proofs.Taking.{told_follow, told_happens, told_keeps, told_kept, told_returns, took_as}
 use Rattle.redis_session.proofs.session.Session.take.Goals as goal
@@ -85,3 +86,6 @@ returns-in-Part-clause-took c =
     (told_happens c.self.invariant c.args.number c.in-Part.call c.in-Part.part c.in-Reply.reply.items c.take.new.self h c.args.self.now c.tell.new.calls.items c.self.view_is c.tell.ensures.calls)
     (told_keeps c.self.invariant c.args.number c.in-Part.call c.in-Part.part c.in-Reply.reply.items c.take.new.self h c.tell.new.calls.items c.tell.ensures.calls)
     (told_returns c.self.invariant c.args.number c.in-Part.call c.in-Part.part c.in-Reply.reply.items c.take.new.self h c.tell.new.calls.items c.tell.ensures.calls)
+
+pub returns-in_err-take-clause-cause : goal.returns-in_err-take-clause-cause
+returns-in_err-take-clause-cause c = for_err c.from_residual.result (subst (λ (t : State). HasReply c.args.number t.links) c.self.view_is c.in_err-take.ensures.cause)

@@ -1,7 +1,7 @@
-use Rattle.std.proofs.Common.{◌∙◌, ◌++◌, sym, ap, refl}
+use Rattle.std.proofs.Common.{◌∙◌, ◌++◌, take, sym, ap, refl}
 use Rattle.std.specs.List.{slice_get}
 use Rattle.session_core.specs.Channel.{Channel}
-use Rattle.session_core.proofs.LinkSteps.{is_for, takes}
+use Rattle.session_core.proofs.LinkSteps.{is_for, answers, takes, for_err}
 use Rattle.session_core.proofs.link.Link.take.Goals as goal
 
 pub break_by-requires-in-TooLong-clause-cause : goal.break_by-requires-in-TooLong-clause-cause
@@ -34,3 +34,11 @@ returns-clause-taken c =
     let opened = ap (λ (l : Channel). l.standing) c.self.view_is ∙ c.requires in
     let own = is_for _ _ _ _ c.self.view_is (sym c.first_wait.ensures ∙ wait.is) (sym c.written_before.ensures.first ∙ c.in-Some.is) c.if-written-wait.false in
     rw (← c.self.view_is) (takes _ wait.wait c.in-Reply.len c.pop_front.new.self.items c.in_ok-reply.reply.items c.take_front.new.self opened own front c.in_ok-reply.ensures.taken c.pop_front.ensures.rest c.in_ok-reply.ensures.ok)
+
+pub returns-in_err-reply-clause-cause : goal.returns-in_err-reply-clause-cause
+returns-in_err-reply-clause-cause c =
+    let wait = c.in-Some-first_wait in
+    let front = rw c.as_slice.ensures at c.in-Reply.ensures.front in
+    let opened = ap (λ (l : Channel). l.standing) c.self.view_is ∙ c.requires in
+    let own = is_for _ _ _ _ c.self.view_is (sym c.first_wait.ensures ∙ wait.is) (sym c.written_before.ensures.first ∙ c.in-Some.is) c.if-written-wait.false in
+    rw (← c.self.view_is) (for_err c.from_residual.result (wait.wait.ticket, take c.in-Reply.len _, answers _ wait.wait c.in-Reply.len opened own front))
