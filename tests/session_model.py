@@ -135,7 +135,7 @@ class Model:
 
     def may_ask(self, number, seat):
         call, it = self.call(seat.call), self.part_at(seat)
-        if not it or not it.spec.request or not self.may_be_asked(call, it):
+        if not it or not self.may_be_asked(call, it):
             return False
         for n, other in self.numbered(call.caller):
             for p in other.parts if n != seat.call else []:

@@ -136,8 +136,8 @@ class Judge:
     def why_not(self, number, seat):
         """Why a part may not be asked on a link, or None."""
         tale = self.parts.get(seat)
-        if not tale or not tale.spec.request:
-            return "there is no such request"
+        if not tale:
+            return "there is no such part"
         if tale.ran():
             return "once: no part is asked again that ran, may have run or may yet"
         if not self.waits(seat):

@@ -1,27 +1,27 @@
 -- A call begins.
-use Rattle.std.proofs.Common.{◌≡◌, ◌≢◌, ◌<◌, ◌≤◌, ◌+◌, ◌^◌, ◌++◌, ◌⊎◌, inl, inr, ℕ, suc, true, false, if◌then◌else◌, eqb, List, [], ◌∷◌, length, length-append, Some, refl, sym, ap, ◌∙◌, subst, arith}
+use Rattle.std.proofs.Common.{◌≡◌, ◌≢◌, ◌<◌, ◌≤◌, ◌+◌, ◌-◌, ◌^◌, ◌++◌, ◌⊎◌, inl, inr, ℕ, suc, true, false, if◌then◌else◌, eqb, List, [], ◌∷◌, length, length-append, Some, refl, sym, ap, ◌∙◌, subst, arith}
 use Rattle.std.specs.List.{slice_get, list_all}
-use Rattle.std.proofs.lemmas.Bool.{eq-eqb, cases_eq}
+use Rattle.std.proofs.lemmas.Bool.{eq-eqb, cases_lt, cases_eq}
 use Rattle.std.proofs.lemmas.Option.{same_Some, slice_get_within}
 use Rattle.session_core.specs.declared.ordered_part.OrderedPart.{OrderedPart}
 use Rattle.session_core.specs.declared.part.PartOrder.{PartOrder}
 use Rattle.session_core.specs.Order.{Order, MayJoin, joined, waiting_parts}
 use Rattle.session_core.specs.Part.{PartState, is_waiting}
 use Rattle.session_core.specs.Replies.{owes, HaveBegun}
-use Rattle.session_core.specs.State.{State, CallState, Begin, begun, AreApart, May, Happens, after}
-use Rattle.session_core.proofs.AfterEvents.{has_begun}
+use Rattle.session_core.specs.State.{State, CallState, Begin, begun, AreApart, Has, May, Happens, after}
+use Rattle.session_core.proofs.AfterEvents.{has_begun, call_new}
 use Rattle.session_core.proofs.OrderJoins.{length-waiting}
-use Rattle.session_core.proofs.PlaceLists.{get_pushed, get_pushed_last}
+use Rattle.session_core.proofs.PlaceLists.{get_pushed, get_pushed_last, get_before}
 use Rattle.redis_session.specs.declared.caller.CallPlaces.{CallPlaces}
 use Rattle.redis_session.specs.declared.callers.Callers.{Callers}
-use Rattle.redis_session.specs.Callers.{order_of, replies_of, OthersKept, CallsKept}
+use Rattle.redis_session.specs.Callers.{order_of, replies_of, last_of, OthersKept, CallsKept}
 use Rattle.redis_session.specs.Ties.{AreTied, AreOwed, AreOrdered, AreFree, is_ordered, end_of}
 use Rattle.redis_session.proofs.Ties.Tied.{tied_orders}
-use Rattle.redis_session.proofs.Ties.Begins.{orders_of, may_join, tied_began, tied_began_free}
-use Rattle.redis_session.proofs.Ties.Owed.{more_of, owed_began, owed_same}
+use Rattle.redis_session.proofs.Ties.Begins.{orders_of, began_cases, may_join, tied_began, tied_began_free}
+use Rattle.redis_session.proofs.Ties.Owed.{IsHeld, held_before, more_of, owed_began, owed_same}
 use Rattle.redis_session.proofs.Ties.Reached.{reached_after}
-use Rattle.redis_session.specs.Begun.{ordered_of}
-use Rattle.redis_session.specs.Kept.{IsKept}
+use Rattle.redis_session.specs.Begun.{ordered_of, HaveRequests}
+use Rattle.redis_session.specs.Kept.{IsKept, AreLast}
 use Rattle.redis_session.proofs.Numbers.{other_number}
 use Rattle.redis_session.proofs.Keeping.{state_of}
 use Rattle.redis_session.proofs.Finishing.{same_orders}
@@ -89,6 +89,12 @@ begin_failed {callers = callers} s new k kept = record {
   reached = k.reached;
   tied = tied_orders (λ caller. order_of caller new) k.tied kept.order;
   owed = owed_same (λ caller. replies_of caller new) k.owed kept.owed;
+  last = record {
+    parts = λ caller call part p has. let r = k.last.parts caller call part p has in (r.0, kept.last caller ∙ r.1, r.2);
+    wanted = λ call state is w. let r = k.last.wanted call state is w in (r.0, kept.last state.caller ∙ r.1, r.2);
+    there = λ caller last is. k.last.there caller last (sym (kept.last caller) ∙ is);
+  };
+  some = k.some;
   short = λ caller. let end : end_of (order_of caller new) ≡ end_of (order_of caller callers) = ap end_of (kept.order caller) in omega (arith, end, k.short caller);
   fits = k.fits;
 }
@@ -115,9 +121,9 @@ begin_happens s now call caller parts calls e is wait apart calls_are = subst (�
 })
 
 module _ {places : List CallPlaces} {callers : Callers} {began : ℕ} (s : State) (k : IsKept s places callers began) (call caller : ℕ) (parts : List PartState) (at : CallPlaces) (new : Callers) (calls : List CallState)
-    (is : call ≡ begun s) (wait : list_all (λ p. is_waiting p.phase) parts ≡ true) (apart : AreApart parts) (alike : AreAlike parts)
-    (order_at : at.order ≡ end_of (order_of caller callers)) (reply_at : at.reply ≡ (replies_of caller callers).next_place)
-    (joins_as : order_of caller new ≡ joined call (ordered_of parts) (order_of caller callers)) (owes_as : replies_of caller new ≡ owes call (replies_of caller callers)) (below : HaveBegun (replies_of caller callers)) (kept : OthersKept caller callers new)
+    (is : call ≡ begun s) (wait : list_all (λ p. is_waiting p.phase) parts ≡ true) (apart : AreApart parts) (alike : AreAlike parts) (requests : HaveRequests parts)
+    (caller_at : at.caller ≡ caller) (order_at : at.order ≡ end_of (order_of caller callers)) (reply_at : at.reply ≡ (replies_of caller callers).next_place)
+    (joins_as : order_of caller new ≡ joined call (ordered_of parts) (order_of caller callers)) (owes_as : replies_of caller new ≡ owes call (replies_of caller callers)) (below : HaveBegun (replies_of caller callers)) (last_is : last_of caller new ≡ Some call) (kept : OthersKept caller callers new)
     (calls_are : calls ≡ s.calls ++ begun_call caller parts ∷ []) where
   may : May (Begin call caller parts) s
   may = (is, wait, apart)
@@ -147,6 +153,48 @@ module _ {places : List CallPlaces} {callers : Callers} {began : ℕ} (s : State
         (place_stays call at.order k.order_places (s.first + i) ne ∙ stood.0, place_stays call at.reply k.reply_places (s.first + i) ne ∙ stood.1)
   ]
 
+  -- an earlier call of a caller is not past its last one
+  up : (c n : ℕ) → n < call → (last : ℕ) × (last_of c callers ≡ Some last) × (n ≤ last) → (last : ℕ) × (last_of c new ≡ Some last) × (n ≤ last)
+  up c n lt r = elim (cases_eq c caller) [
+    | inl own ↦ (call, ap (λ m. last_of m new) own ∙ last_is, omega (arith, lt))
+    | inr ne ↦ (r.0, kept.last c ne ∙ r.1, r.2)
+  ]
+
+  last : AreLast (after (Begin call caller parts) s) (places ++ at ∷ []) (λ c. last_of c new)
+  last = record {
+    parts = λ c n q p has. elim (began_cases call caller parts may has) [
+      | inl old ↦ up c n old.1 (k.last.parts c n q p old.0)
+      | inr fresh ↦ (call, ap (λ m. last_of m new) fresh.0 ∙ last_is, omega (arith, fresh.1))
+    ];
+    wanted = λ n state there w. elim (cases_lt n (begun s)) [
+      | inl old ↦
+          let now : IsHeld (after (Begin call caller parts) s) state.caller n = record { state = state; call_is = there; caller_is = refl; wanted = w } in
+          let was = (held_before (Begin call caller parts) may old now).0 in
+          let r = k.last.wanted n was.state was.call_is was.wanted in
+          up state.caller n (omega (arith, old, is)) (r.0, ap (λ m. last_of m callers) (sym was.caller_is) ∙ r.1, r.2)
+      | inr fresh ↦
+          let b : (c : ℕ) × (ps : List PartState) × (Begin call caller parts ≡ Begin n c ps) × (state ≡ begun_call c ps) = call_new (Begin call caller parts) n s state may fresh there in
+          let number : call ≡ n = cc (b.2) in
+          let own : caller ≡ state.caller = cc (b.2, b.3) in
+          (call, ap (λ m. last_of m new) (sym own) ∙ last_is, omega (arith, number))
+    ];
+    there = λ c last e. elim (cases_eq c caller) [
+      | inl own ↦
+          let same : last ≡ call = same_Some last call (sym e ∙ ap (λ m. last_of m new) own ∙ last_is) in
+          let end : last - s.first ≡ length places = omega (arith, same, is, k.count) in
+          (at, omega (arith, same, is), ap (slice_get (places ++ at ∷ [])) end ∙ get_pushed_last places at, caller_at ∙ sym own)
+      | inr ne ↦
+          let r = k.last.there c last (sym (kept.last c ne) ∙ e) in
+          (r.0, r.1, get_before places (at ∷ []) (last - s.first) (slice_get_within places (last - s.first) r.0 r.2) ∙ r.2, r.3)
+    ];
+  }
+
+  some : (c n q : ℕ) (p : PartState) → Has (after (Begin call caller parts) s) c n q p → 0 < length p.request
+  some c n q p has = elim (began_cases call caller parts may has) [
+    | inl old ↦ k.some c n q p old.0
+    | inr fresh ↦ requests q p fresh.2
+  ]
+
   short : (c : ℕ) → end_of (order_of c new) ≤ began + length parts
   short c = elim (cases_eq c caller) [
     | inl own ↦
@@ -173,6 +221,8 @@ module _ {places : List CallPlaces} {callers : Callers} {began : ℕ} (s : State
             (owed_began call caller parts (λ c. replies_of c new) (with_place call at.reply k.reply_places) k.owed may
             (more_of caller call (λ c. replies_of c callers) (λ c. replies_of c new) owes_as kept.replies) below
             (place_here call at.reply k.reply_places ∙ reply_at) (place_stays call at.reply k.reply_places));
+        last = subst (λ t. AreLast t more (λ c. last_of c new)) (sym happens.is) (subst (λ ps. AreLast (after (Begin call caller parts) s) ps (λ c. last_of c new)) (sym more_is) last);
+        some = λ c n q p has. some c n q p (subst (λ t. Has t c n q p) happens.is has);
         short = λ c. omega (arith, short c, total_is);
         fits = omega (arith, many, is, room);
       }

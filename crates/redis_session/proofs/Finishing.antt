@@ -11,7 +11,7 @@ use Rattle.session_core.specs.State.{State, CallState, Event, Finish, numbered, 
 use Rattle.session_core.proofs.AfterEvents.{numbered_same, length-numbered}
 use Rattle.redis_session.specs.declared.caller.CallPlaces.{CallPlaces}
 use Rattle.redis_session.specs.declared.callers.Callers.{Callers}
-use Rattle.redis_session.specs.Callers.{order_of, replies_of, OthersKept}
+use Rattle.redis_session.specs.Callers.{order_of, replies_of, OthersKept, OnlyReplies}
 use Rattle.redis_session.specs.Ties.{end_of}
 use Rattle.redis_session.proofs.Ties.Links.{tied_quiet}
 use Rattle.redis_session.proofs.Ties.Owed.{IsHeld, among_at, turn_first, turn_none, turn_is_first, first_held, over_of, owed_finished}
@@ -51,17 +51,17 @@ module _ {places : List CallPlaces} {callers : Callers} {began : ℕ} (s : State
         ∙ ap (state_of (numbered (link_after (Finish call state)) 0 s.links) s.first) (calls_are ∙ replied_calls call s.first state s.calls);
   })
 
-  pub finish_kept : (new : Callers) → order_of state.caller new ≡ order_of state.caller callers → (replies_of state.caller new).owed ≡ without_place first.place (replies_of state.caller callers).owed
-      → OthersKept state.caller callers new → IsKept (state_of s.links s.first calls) places new began
-  finish_kept new order owed kept =
+  pub finish_kept : (new : Callers) → (replies_of state.caller new).owed ≡ without_place first.place (replies_of state.caller callers).owed
+      → OnlyReplies state.caller callers new → IsKept (state_of s.links s.first calls) places new began
+  finish_kept new owed only =
       let held : IsHeld s state.caller call = record { state = state; call_is = call_is; caller_is = refl; wanted = wanted } in
       let at : first.place ≡ k.reply_places call = (first_held state.caller first k.owed is).1 ∙ ap k.reply_places same in
       let gone : (replies_of state.caller new).owed ≡ without_place (k.reply_places call) (replies_of state.caller callers).owed = owed ∙ ap (λ n. without_place n (replies_of state.caller callers).owed) at in
-      let orders = same_orders state.caller callers new order kept in
       kept_by (Finish call state) (state_of s.links s.first calls) new k (finish_happens s refl) refl (length-numbered (call_after (Finish call state)) s.first s.calls)
-      (tied_quiet (Finish call state) (λ c. order_of c new) k.tied finish_may tt orders)
-      (owed_finished state (λ c. replies_of c new) k.owed finish_may held (over_of state.caller (k.reply_places call) (λ c. replies_of c callers) (λ c. replies_of c new) gone kept.replies))
-      (λ c. let end : end_of (order_of c new) ≡ end_of (order_of c callers) = ap end_of (orders c) in omega (arith, end, k.short c))
+      (tied_quiet (Finish call state) (λ c. order_of c new) k.tied finish_may tt only.order)
+      (owed_finished state (λ c. replies_of c new) k.owed finish_may held (over_of state.caller (k.reply_places call) (λ c. replies_of c callers) (λ c. replies_of c new) gone only.replies))
+      only.last
+      (λ c. let end : end_of (order_of c new) ≡ end_of (order_of c callers) = ap end_of (only.order c) in omega (arith, end, k.short c))
 
 -- ---- why it may not be finished
 

@@ -14,7 +14,7 @@ use Rattle.session_core.proofs.AfterEvents.{seen, has_begun, length-numbered}
 use Rattle.session_core.proofs.PlaceLists.{at_index}
 use Rattle.redis_session.specs.declared.caller.CallPlaces.{CallPlaces}
 use Rattle.redis_session.specs.declared.callers.Callers.{Callers}
-use Rattle.redis_session.specs.Callers.{order_of, replies_of, OthersKept}
+use Rattle.redis_session.specs.Callers.{order_of, replies_of, OnlyReplies}
 use Rattle.redis_session.specs.Ties.{AreTied, OrderGoes, given_up, is_ordered, end_of}
 use Rattle.redis_session.proofs.Ties.GiveUps.{call_within, tied_given_up, gave_up_free, all_free}
 use Rattle.redis_session.proofs.Ties.Owed.{IsHeld, is_owed, over_of, owed_given_up}
@@ -23,7 +23,7 @@ use Rattle.redis_session.specs.Calls.{with_call}
 use Rattle.redis_session.specs.Kept.{IsKept, IsPlace, CallGoes}
 use Rattle.redis_session.proofs.CallChanges.{given_up_calls}
 use Rattle.redis_session.proofs.Keeping.{state_of, call_stands, place_is, kept_by}
-use Rattle.redis_session.proofs.Finishing.{links_stay, same_orders}
+use Rattle.redis_session.proofs.Finishing.{links_stay}
 
 -- ---- the order of its first part
 
@@ -105,21 +105,20 @@ module _ {places : List CallPlaces} {callers : Callers} {began : ℕ} (s : State
 
   pub give_kept : (after_calls : List CallState) (mid new : Callers) (reply : ℕ) → state.is_wanted ≡ true → ((at : CallPlaces) → slice_get places (call - s.first) ≡ Some at → reply ≡ at.reply)
       → after_calls ≡ with_call call s.first calls.given_up s.calls → CallGoes state.caller place count order callers mid
-      → order_of state.caller new ≡ order_of state.caller mid → (replies_of state.caller new).owed ≡ without_place reply (replies_of state.caller mid).owed
-      → OthersKept state.caller mid new → IsKept (state_of s.links s.first after_calls) places new began
-  give_kept after_calls mid new reply wanted reply_as is goes order_same owed kept =
+      → (replies_of state.caller new).owed ≡ without_place reply (replies_of state.caller mid).owed
+      → OnlyReplies state.caller mid new → IsKept (state_of s.links s.first after_calls) places new began
+  give_kept after_calls mid new reply wanted reply_as is goes owed only =
       let caller = state.caller in
       let st = call_stands k call state call_is in
       let may : call < begun s = has_begun call s state call_is in
-      let orders : (c : ℕ) → order_of c new ≡ order_of c mid = same_orders caller mid new order_same kept in
       let held : IsHeld s caller call = record { state = state; call_is = call_is; caller_is = refl; wanted = wanted } in
       let at : reply ≡ k.reply_places call = reply_as st.at st.there ∙ sym st.reply_is in
       let gone : (replies_of caller new).owed ≡ without_place (k.reply_places call) (replies_of caller callers).owed =
-      owed ∙ ap (λ n. without_place n (replies_of caller mid).owed) at ∙ ap (λ (r : Replies). without_place (k.reply_places call) r.owed) (goes.replies caller) in
-      let others : (other : ℕ) → other ≢ caller → order_of other new ≡ order_of other callers = λ other ne. orders other ∙ goes.others other ne in
-      let to : is_ordered order ≡ true → OrderGoes (given_up place count) (order_of caller callers) (order_of caller new) = λ o. subst (λ (x : Order). OrderGoes (given_up place count) (order_of caller callers) x) (sym (orders caller)) (goes.ordered o) in
+      owed ∙ ap (λ n. without_place n (replies_of caller mid).owed) at ∙ ap (λ (r : Replies). without_place (k.reply_places call) r.owed) (goes.only.replies caller) in
+      let others : (other : ℕ) → other ≢ caller → order_of other new ≡ order_of other callers = λ other ne. only.order other ∙ goes.only.order other ne in
+      let to : is_ordered order ≡ true → OrderGoes (given_up place count) (order_of caller callers) (order_of caller new) = λ o. subst (λ (x : Order). OrderGoes (given_up place count) (order_of caller callers) x) (sym (only.order caller)) (goes.ordered o) in
       let same : is_ordered order ≡ false → (other : ℕ) → order_of other new ≡ order_of other callers = λ f other. elim (cases_eq other caller) [
-        | inl own ↦ subst (λ (n : ℕ). order_of n new ≡ order_of n callers) (sym own) (orders caller ∙ goes.free f)
+        | inl own ↦ subst (λ (n : ℕ). order_of n new ≡ order_of n callers) (sym own) (only.order caller ∙ goes.free f)
         | inr ne ↦ others other ne
       ] in
       kept_by (GiveUp call) (state_of s.links s.first after_calls) new k (give_happens s after_calls refl is) refl (length-numbered (call_after (GiveUp call)) s.first s.calls)
@@ -133,7 +132,8 @@ module _ {places : List CallPlaces} {callers : Callers} {began : ℕ} (s : State
       others)
       (λ f. gave_up_free call (λ c. order_of c new) k.tied may (none_ordered call state order k.tied call_is first f) (same f)))
       (owed_given_up (λ c. replies_of c new) k.owed may held
-      (over_of caller (k.reply_places call) (λ c. replies_of c callers) (λ c. replies_of c new) gone (λ other ne. kept.replies other ne ∙ goes.replies other)))
+      (over_of caller (k.reply_places call) (λ c. replies_of c callers) (λ c. replies_of c new) gone (λ other ne. only.replies other ne ∙ goes.only.replies other)))
+      (λ other. only.last other ∙ goes.only.last other)
       (λ other. elim (cases_eq other caller) [
         | inl own ↦ by_test (is_ordered order)
             (λ o.

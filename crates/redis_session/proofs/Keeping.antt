@@ -1,5 +1,5 @@
 -- What a session keeps, from one event to the next.
-use Rattle.std.proofs.Common.{◌≡◌, ◌<◌, ◌≤◌, ◌+◌, ◌-◌, ◌^◌, ℕ, true, false, inl, inr, List, [], length, Option, Some, refl, sym, ap, ◌∙◌, subst, arith}
+use Rattle.std.proofs.Common.{◌≡◌, ◌<◌, ◌≤◌, ◌+◌, ◌-◌, ◌^◌, ℕ, true, false, inl, inr, List, [], length, Option, None, Some, refl, sym, ap, ◌∙◌, subst, arith}
 use Rattle.std.specs.List.{slice_get}
 use Rattle.std.proofs.lemmas.Option.{same_Some, slice_get_within}
 use Rattle.std.proofs.lemmas.Bool.{cases_eq}
@@ -13,19 +13,20 @@ use Rattle.session_core.specs.Replies.{no_replies}
 use Rattle.session_core.specs.declared.link.Standing.TheVariants.{Ended}
 use Rattle.session_core.specs.Part.{PartState}
 use Rattle.session_core.specs.State.{State, CallState, Event, Open, On, Forget, start, numbered, call_at, call_after, link_after, links_for, phase_after, unwants, Has, MayPut, Happens, after}
-use Rattle.session_core.proofs.AfterEvents.{call_is, not_forgotten, length-numbered, new_calls}
+use Rattle.session_core.proofs.AfterEvents.{call_is, not_forgotten, length-numbered, new_calls, not_begun, begun_after}
 use Rattle.session_core.proofs.PlaceLists.{at_index}
 use Rattle.redis_session.specs.declared.caller.CallPlaces.{CallPlaces}
 use Rattle.redis_session.specs.declared.callers.Callers.{Callers}
-use Rattle.redis_session.specs.Callers.{order_of, replies_of}
+use Rattle.redis_session.specs.Callers.{order_of, replies_of, last_of}
 use Rattle.redis_session.specs.Ties.{AreTied, AreOwed, OrderGoes, gets, is_ordered, status_of, end_of, IsSteady}
-use Rattle.redis_session.proofs.Ties.Tied.{IsOnly, steady_new, tied_part, tied_free, tied_start}
+use Rattle.redis_session.proofs.Ties.Tied.{IsOnly, part_came, steady_new, tied_part, tied_free, tied_start}
 use Rattle.redis_session.proofs.Ties.Links.{IsQuiet, tied_quiet, quiet_phase}
 use Rattle.redis_session.proofs.Ties.GiveUps.{call_within, part_within}
 use Rattle.redis_session.proofs.Ties.Owed.{same_owed, owed_kept, owed_start}
 use Rattle.redis_session.proofs.Ties.Reached.{reached_by, reached_start}
 use Rattle.redis_session.specs.Links.{HappensOn, Opens, Forgets}
 use Rattle.redis_session.specs.Kept.{IsKept, IsPlace, PartGoes}
+use Rattle.redis_session.proofs.Lasts.{last_after}
 use Rattle.redis_session.proofs.CallChanges.{no_calls_change}
 
 abbrev pub state_of : List (Option Channel) → ℕ → List CallState → State
@@ -77,8 +78,10 @@ place_fits {s = s} {callers = callers} {caller = caller} {call = call} k small h
 pub kept_by : {s : State} {places : List CallPlaces} {callers : Callers} {began : ℕ} (e : Event) (next : State) (new : Callers) (k : IsKept s places callers began) → Happens s e next
     → (after e s).first ≡ s.first → length (after e s).calls ≡ length s.calls
     → AreTied (after e s) k.order_places (λ caller. order_of caller new) → AreOwed (after e s) k.reply_places (λ caller. replies_of caller new)
-    → ((caller : ℕ) → end_of (order_of caller new) ≤ began) → IsKept next places new began
-kept_by {s = s} {places = places} {began = began} e next new k h first count tied owed short = subst (λ t. IsKept t places new began) (sym h.is) (record {
+    → ((caller : ℕ) → last_of caller new ≡ last_of caller callers) → ((caller : ℕ) → end_of (order_of caller new) ≤ began) → IsKept next places new began
+kept_by {s = s} {places = places} {began = began} e next new k h first count tied owed lasts short =
+    let none : new_calls e ≡ 0 = omega (arith, begun_after e s h.may, first, count) in
+    subst (λ t. IsKept t places new began) (sym h.is) (record {
   order_places = k.order_places;
   reply_places = k.reply_places;
   count = k.count ∙ sym count;
@@ -89,6 +92,11 @@ kept_by {s = s} {places = places} {began = began} e next new k h first count tie
   reached = reached_by s e k.reached h.may;
   tied = tied;
   owed = owed;
+  last = last_after e (λ caller. last_of caller new) k.last h.may none first lasts;
+  some = λ caller call part p has.
+      let c = part_came h.may none has in
+      let same = ap (λ (x : PartState). length x.request) c.is in
+      omega (arith, same, k.some caller call part c.was c.has);
   short = short;
   fits = omega (arith, first, count, k.fits);
 })
@@ -100,7 +108,7 @@ kept_quiet {callers = callers} e next k h quiet first count none wanted =
     kept_by e next callers k h first count
     (tied_quiet e (λ caller. order_of caller callers) k.tied h.may quiet (λ caller. refl))
     (owed_kept e (λ caller. replies_of caller callers) k.owed h.may none (λ caller n held. wanted n) (same_owed (λ caller. replies_of caller callers) (λ caller. replies_of caller callers) (λ caller. refl)))
-    k.short
+    (λ caller. refl) k.short
 
 -- One part gets a status.
 pub kept_part : {s : State} {places : List CallPlaces} {callers : Callers} {began caller call part : ℕ} {p : PartState} (e : Event) (next : State) (new : Callers) (place : ℕ) (st : Status) (k : IsKept s places callers began) → Happens s e next
@@ -112,13 +120,14 @@ kept_part {callers = callers} {began = began} {caller = caller} {call = call} {p
     λ o. subst (λ (n : ℕ). OrderGoes (gets n st) (order_of caller callers) (order_of caller new)) (at o) (goes.ordered o) in
     let same : is_ordered p.order ≡ false → (other : ℕ) → order_of other new ≡ order_of other callers = λ f other. elim (cases_eq other caller) [
       | inl own ↦ subst (λ (n : ℕ). order_of n new ≡ order_of n callers) (sym own) (goes.free f)
-      | inr apart ↦ goes.others other apart
+      | inr apart ↦ goes.only.order other apart
     ] in
     kept_by e next new k h first count
     (by_test (is_ordered p.order)
-    (λ o. tied_part e (λ c. order_of c new) st k.tied h.may steady only has o is (to o) goes.others)
+    (λ o. tied_part e (λ c. order_of c new) st k.tied h.may steady only has o is (to o) goes.only.order)
     (λ f. tied_free e (λ c. order_of c new) k.tied h.may steady only has f (same f)))
-    (owed_kept e (λ c. replies_of c new) k.owed h.may (steady_new e steady) (λ c n held. wanted n) (same_owed (λ c. replies_of c callers) (λ c. replies_of c new) goes.replies))
+    (owed_kept e (λ c. replies_of c new) k.owed h.may (steady_new e steady) (λ c n held. wanted n) (same_owed (λ c. replies_of c callers) (λ c. replies_of c new) goes.only.replies))
+    goes.only.last
     (λ other. elim (cases_eq other caller) [
       | inl own ↦ by_test (is_ordered p.order)
           (λ o.
@@ -126,7 +135,7 @@ kept_part {callers = callers} {began = began} {caller = caller} {call = call} {p
           let moved : end_of (order_of other new) ≡ end_of (order_of caller new) = ap (λ n. end_of (order_of n new)) own in
           omega (arith, end, moved, k.short caller))
           (λ f. let end : end_of (order_of other new) ≡ end_of (order_of other callers) = ap end_of (same f other) in omega (arith, end, k.short other))
-      | inr apart ↦ let end : end_of (order_of other new) ≡ end_of (order_of other callers) = ap end_of (goes.others other apart) in omega (arith, end, k.short other)
+      | inr apart ↦ let end : end_of (order_of other new) ≡ end_of (order_of other callers) = ap end_of (goes.only.order other apart) in omega (arith, end, k.short other)
     ])
 
 -- ---- events on links
@@ -185,8 +194,8 @@ same_links_kept {places = places} {callers = callers} {began = began} s links k 
 
 -- ---- the start
 
-started : (callers : Callers) → ((caller : ℕ) → order_of caller callers ≡ no_order) → ((caller : ℕ) → replies_of caller callers ≡ no_replies) → IsKept start [] callers 0
-started callers orders replies = record {
+started : (callers : Callers) → ((caller : ℕ) → order_of caller callers ≡ no_order) → ((caller : ℕ) → replies_of caller callers ≡ no_replies) → ((caller : ℕ) → last_of caller callers ≡ None) → IsKept start [] callers 0
+started callers orders replies lasts = record {
   order_places = λ _. 0;
   reply_places = λ _. 0;
   count = refl;
@@ -194,13 +203,19 @@ started callers orders replies = record {
   reached = reached_start;
   tied = tied_start (λ _. 0) (λ caller. order_of caller callers) orders;
   owed = owed_start (λ _. 0) (λ caller. replies_of caller callers) replies;
+  last = record {
+    parts = λ caller call part p has. let no : None ≡ Some has.state = sym (not_begun call start (omega arith)) ∙ has.call_is in absurd (cc);
+    wanted = λ call state is w. let no : None ≡ Some state = sym (not_begun call start (omega arith)) ∙ is in absurd (cc);
+    there = λ caller last is. let no : None ≡ Some last = sym (lasts caller) ∙ is in absurd (cc);
+  };
+  some = λ caller call part p has. let no : None ≡ Some has.state = sym (not_begun call start (omega arith)) ∙ has.call_is in absurd (cc);
   short = λ caller. let end : end_of (order_of caller callers) ≡ end_of no_order = ap end_of (orders caller) in omega (arith, end);
   fits = omega arith;
 }
 
-pub kept_start : (links : List (Option Channel)) (calls : List CallState) (places : List CallPlaces) (callers : Callers) → links ≡ [] → calls ≡ [] → places ≡ [] → ((caller : ℕ) → order_of caller callers ≡ no_order) → ((caller : ℕ) → replies_of caller callers ≡ no_replies)
+pub kept_start : (links : List (Option Channel)) (calls : List CallState) (places : List CallPlaces) (callers : Callers) → links ≡ [] → calls ≡ [] → places ≡ [] → ((caller : ℕ) → order_of caller callers ≡ no_order) → ((caller : ℕ) → replies_of caller callers ≡ no_replies) → ((caller : ℕ) → last_of caller callers ≡ None)
     → IsKept (state_of links 0 calls) places callers 0
-kept_start links calls places callers no_links no_calls no_places orders replies =
+kept_start links calls places callers no_links no_calls no_places orders replies lasts =
     subst (λ ls. IsKept (state_of ls 0 calls) places callers 0) (sym no_links)
     (subst (λ cs. IsKept (state_of [] 0 cs) places callers 0) (sym no_calls)
-    (subst (λ ps. IsKept (state_of [] 0 []) ps callers 0) (sym no_places) (started callers orders replies)))
+    (subst (λ ps. IsKept (state_of [] 0 []) ps callers 0) (sym no_places) (started callers orders replies lasts)))

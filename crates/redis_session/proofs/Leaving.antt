@@ -57,7 +57,7 @@ module _ {places : List CallPlaces} {callers : Callers} {began : ℕ} (s : State
       kept_by (Leave call) (state_of s.links s.first calls) callers k (leave_happens s refl) refl (length-numbered (call_after (Leave call)) s.first s.calls)
       (tied_left call (λ c. order_of c callers) k.tied leave_may (past first at gone) (λ c. refl))
       (owed_kept (Leave call) (λ c. replies_of c callers) k.owed leave_may refl (λ c n held. refl) (same_owed (λ c. replies_of c callers) (λ c. replies_of c callers) (λ c. refl)))
-      k.short
+      (λ c. refl) k.short
 
 -- ---- why it does not leave
 

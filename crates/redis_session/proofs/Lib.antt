@@ -1,6 +1,5 @@
 pub mod Ties
 pub mod OwedReplies
-pub mod IdleCallers
 pub mod CallerMaps
 pub mod GivenUp
 pub mod Prefixes
@@ -11,6 +10,7 @@ pub mod CallLists
 pub mod CallChanges
 pub mod LinkSlots
 pub mod PartMoves
+pub mod Lasts
 pub mod Keeping
 pub mod Asking
 pub mod Taking

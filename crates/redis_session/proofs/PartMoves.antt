@@ -1,35 +1,23 @@
 -- What becomes of a part, in the order of its caller.
 use Rattle.std.proofs.Common.{◌≡◌, ℕ, true, false, inl, inr, refl, sym, ◌∙◌, subst}
-use Rattle.std.proofs.lemmas.Bool.{false≢true, cases_eq}
+use Rattle.std.proofs.lemmas.Bool.{false≢true}
 use Rattle.session_core.specs.declared.ordered_part.Status.{Status}
 use Rattle.session_core.specs.declared.ordered_part.Status.TheVariants.{Waits, Asked, Settled, Unsent}
 use Rattle.session_core.specs.declared.part.PartOrder.{PartOrder}
 use Rattle.session_core.specs.Order.{Order, MayAsk, IsWaiting, IsOnItsWay, with_status, trimmed}
 use Rattle.redis_session.specs.declared.callers.Callers.{Callers}
-use Rattle.redis_session.specs.Callers.{order_of, replies_of, OthersKept}
+use Rattle.redis_session.specs.Callers.{order_of, OnlyOrder}
 use Rattle.redis_session.specs.Ties.{OrderGoes, gets, given_up, is_ordered}
 use Rattle.redis_session.proofs.Ties.Goes.{goes_to, goes_done, goes_refused}
 use Rattle.redis_session.specs.Kept.{PartGoes, CallGoes}
+use Rattle.redis_session.proofs.CallerMaps.{only_same}
 
 pub part_goes : (caller place : ℕ) (order : PartOrder) (st : Status) (old new : Callers) → is_ordered order ≡ true → OrderGoes (gets place st) (order_of caller old) (order_of caller new)
-    → replies_of caller new ≡ replies_of caller old → OthersKept caller old new → PartGoes caller place order st old new
-part_goes caller place order st old new o goes replies kept = record {
-  ordered = λ _. goes;
-  free = λ f. absurd (false≢true (sym f ∙ o));
-  others = kept.order;
-  replies = λ other. elim (cases_eq other caller) [
-    | inl same ↦ subst (λ (n : ℕ). replies_of n new ≡ replies_of n old) (sym same) replies
-    | inr apart ↦ kept.replies other apart
-  ];
-}
+    → OnlyOrder caller old new → PartGoes caller place order st old new
+part_goes caller place order st old new o goes only = record { ordered = λ _. goes; free = λ f. absurd (false≢true (sym f ∙ o)); only = only }
 
 pub part_stays : (caller place : ℕ) (order : PartOrder) (st : Status) (old : Callers) → is_ordered order ≡ false → PartGoes caller place order st old old
-part_stays caller place order st old f = record {
-  ordered = λ o. absurd (false≢true (sym f ∙ o));
-  free = λ _. refl;
-  others = λ other apart. refl;
-  replies = λ other. refl;
-}
+part_stays caller place order st old f = record { ordered = λ o. absurd (false≢true (sym f ∙ o)); free = λ _. refl; only = only_same caller old }
 
 pub goes_asked : (place link : ℕ) (old new : Order) → MayAsk place link old → new ≡ with_status place (Asked link) old → OrderGoes (gets place (Asked link)) old new
 goes_asked place link old new may is = subst (λ (o : Order). OrderGoes (gets place (Asked link)) old o) (sym is) (goes_to place (Asked link) old may.it may.there)
@@ -49,21 +37,8 @@ goes_unsent place old new waits is = subst (λ (o : Order). OrderGoes (gets plac
 -- ---- a call that is given up
 
 pub call_goes : (caller place count : ℕ) (order : PartOrder) (old new : Callers) → is_ordered order ≡ true → OrderGoes (given_up place count) (order_of caller old) (order_of caller new)
-    → replies_of caller new ≡ replies_of caller old → OthersKept caller old new → CallGoes caller place count order old new
-call_goes caller place count order old new o goes replies kept = record {
-  ordered = λ _. goes;
-  free = λ f. absurd (false≢true (sym f ∙ o));
-  others = kept.order;
-  replies = λ other. elim (cases_eq other caller) [
-    | inl same ↦ subst (λ (n : ℕ). replies_of n new ≡ replies_of n old) (sym same) replies
-    | inr apart ↦ kept.replies other apart
-  ];
-}
+    → OnlyOrder caller old new → CallGoes caller place count order old new
+call_goes caller place count order old new o goes only = record { ordered = λ _. goes; free = λ f. absurd (false≢true (sym f ∙ o)); only = only }
 
 pub call_stays : (caller place count : ℕ) (order : PartOrder) (old : Callers) → is_ordered order ≡ false → CallGoes caller place count order old old
-call_stays caller place count order old f = record {
-  ordered = λ o. absurd (false≢true (sym f ∙ o));
-  free = λ _. refl;
-  others = λ other apart. refl;
-  replies = λ other. refl;
-}
+call_stays caller place count order old f = record { ordered = λ o. absurd (false≢true (sym f ∙ o)); free = λ _. refl; only = only_same caller old }

@@ -1,16 +1,28 @@
 -- What a session keeps besides its state.
-use Rattle.std.specs.Prelude.{◌≡◌, ◌≢◌, ◌+◌, ◌-◌, ◌^◌, ◌<◌, ◌≤◌, ℕ, true, false, List, length, Some, slice_get}
+use Rattle.std.specs.Prelude.{◌≡◌, ◌+◌, ◌-◌, ◌^◌, ◌<◌, ◌≤◌, ℕ, true, false, List, length, Option, Some, slice_get}
 use Rattle.session_core.specs.declared.ordered_part.Status.{Status}
 use Rattle.session_core.specs.declared.ordered_part.Status.TheVariants.{Asked}
 use Rattle.session_core.specs.declared.part.PartOrder.{PartOrder}
 use Rattle.session_core.specs.Order.{Order, IsOnItsWay}
 use Rattle.session_core.specs.Part.{PartState}
-use Rattle.session_core.specs.State.{State, CallState}
+use Rattle.session_core.specs.State.{State, CallState, Has, call_at}
 use Rattle.redis_session.specs.Calls.{call_in}
 use Rattle.redis_session.specs.Ties.{AreTied, AreOwed, IsReached, OrderGoes, gets, given_up, is_ordered, status_of, end_of}
 use Rattle.redis_session.specs.declared.caller.CallPlaces.{CallPlaces}
 use Rattle.redis_session.specs.declared.callers.Callers.{Callers}
-use Rattle.redis_session.specs.Callers.{order_of, replies_of}
+use Rattle.redis_session.specs.Callers.{order_of, replies_of, last_of, OnlyOrder}
+
+-- The number of the last call of each caller of which something is kept.
+pub record AreLast (s : State) (places : List CallPlaces) (lasts : ℕ → Option ℕ) : Type 0 where
+  -- no later call of it has parts
+  pub parts : (caller call part : ℕ) (p : PartState) → Has s caller call part p
+      → (last : ℕ) × (lasts caller ≡ Some last) × (call ≤ last)
+  -- nor is a later one owed its reply
+  pub wanted : (call : ℕ) (state : CallState) → call_at call s ≡ Some state → state.is_wanted ≡ true
+      → (last : ℕ) × (lasts state.caller ≡ Some last) × (call ≤ last)
+  -- that call was not forgotten: so many callers are kept at most
+  pub there : (caller last : ℕ) → lasts caller ≡ Some last
+      → (at : CallPlaces) × (s.first ≤ last) × (slice_get places (last - s.first) ≡ Some at) × (at.caller ≡ caller)
 
 -- Events led to the state. Each call stands at its places in the order and the replies of its caller. So
 -- many parts began in all.
@@ -23,6 +35,8 @@ pub record IsKept (s : State) (places : List CallPlaces) (callers : Callers) (be
   pub reached : IsReached s
   pub tied : AreTied s order_places (λ caller. order_of caller callers)
   pub owed : AreOwed s reply_places (λ caller. replies_of caller callers)
+  pub last : AreLast s places (λ caller. last_of caller callers)
+  pub some : (caller call part : ℕ) (p : PartState) → Has s caller call part p → 0 < length p.request
   -- no place wraps
   pub short : (caller : ℕ) → end_of (order_of caller callers) ≤ began
   pub fits : s.first + length s.calls < 2 ^ 64
@@ -44,8 +58,7 @@ pub record CanMove (first call part : ℕ) (places : List CallPlaces) (order : O
 pub record PartGoes (caller place : ℕ) (order : PartOrder) (st : Status) (old new : Callers) : Type 0 where
   pub ordered : is_ordered order ≡ true → OrderGoes (gets place st) (order_of caller old) (order_of caller new)
   pub free : is_ordered order ≡ false → order_of caller new ≡ order_of caller old
-  pub others : (other : ℕ) → other ≢ caller → order_of other new ≡ order_of other old
-  pub replies : (other : ℕ) → replies_of other new ≡ replies_of other old
+  pub only : OnlyOrder caller old new
 
 -- The order of a caller has what became of this part.
 pub record Moved (first call part : ℕ) (places : List CallPlaces) (caller : ℕ) (p : PartState) (old new : Callers) : Type 0 where
@@ -57,8 +70,7 @@ pub record Moved (first call part : ℕ) (places : List CallPlaces) (caller : �
 pub record CallGoes (caller place count : ℕ) (order : PartOrder) (old new : Callers) : Type 0 where
   pub ordered : is_ordered order ≡ true → OrderGoes (given_up place count) (order_of caller old) (order_of caller new)
   pub free : is_ordered order ≡ false → order_of caller new ≡ order_of caller old
-  pub others : (other : ℕ) → other ≢ caller → order_of other new ≡ order_of other old
-  pub replies : (other : ℕ) → replies_of other new ≡ replies_of other old
+  pub only : OnlyOrder caller old new
 
 -- What the order of its caller has to know of a part that was on its way, which is the one of this number now.
 abbrev pub CanFollow : (first call part : ℕ) → List CallState → List CallPlaces → Callers → Type 0

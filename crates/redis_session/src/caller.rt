@@ -1,17 +1,19 @@
 //! One caller of a session.
 
-ghost use Rattle.std.specs.Prelude.{◌≡◌, ◌↔◌, ◌<◌, IsTrue, IfOk, OnOk, OnErr, length};
+ghost use Rattle.std.specs.Prelude.{◌≡◌, IfOk, OnOk, OnErr};
 ghost use Rattle.session_core.specs.Order.{MayJoin, joined};
 ghost use Rattle.session_core.specs.Replies.{owes, HaveBegun};
 ghost use Rattle.redis_session.specs.Ties.{end_of};
-ghost use Rattle.redis_session.specs.Caller.{no_calls, HasNothing, KeepsCalls};
+ghost use Rattle.redis_session.specs.Caller.{no_calls, KeepsCalls};
 
 use session_core::{CallerOrder, PartOrder, Replies};
 use std::alloc::{AllocError, Global};
 
-/// Where a call stands among those of its caller.
+/// The caller of a call, and where the call stands among those of its caller.
 #[derive(Debug, Clone, Copy)]
 pub(crate) struct CallPlaces {
+    /// The number of its caller.
+    pub(crate) caller: u64,
     /// The place of its first part in the order of its caller.
     pub(crate) order: u64,
     /// The place of its reply.
@@ -23,6 +25,8 @@ pub(crate) struct CallPlaces {
 pub(crate) struct Caller {
     pub(crate) order: CallerOrder,
     pub(crate) replies: Replies,
+    /// The number of its last call.
+    pub(crate) last: u64,
 }
 
 impl Caller {
@@ -33,10 +37,11 @@ impl Caller {
         Caller {
             order: CallerOrder::new(alloc),
             replies: Replies::new(alloc),
+            last: 0,
         }
     }
 
-    /// Adds a call: its parts join the order, and its reply is owed.
+    /// Adds a call of the caller of this number: its parts join the order, and its reply is owed.
     ///
     /// # Errors
     ///
@@ -44,15 +49,18 @@ impl Caller {
     pub(crate) fn begin(
         &mut self,
         alloc: Global,
+        caller: u64,
         number: u64,
         orders: &[PartOrder],
     ) -> Result<CallPlaces, AllocError>
         requires { MayJoin number orders.now self.old.order }
+        ensures caller { IfOk result (λ places. places.caller ≡ caller) }
         ensures place { IfOk result (λ places. places.order ≡ end_of self.old.order) }
         ensures reply { IfOk result (λ places. places.reply ≡ self.old.replies.next_place) }
         ensures joined { OnOk result (self.new.order ≡ joined number orders.now self.old.order) }
         ensures owed { OnOk result (self.new.replies ≡ owes number self.old.replies) }
         ensures begun { OnOk result (HaveBegun self.old.replies) }
+        ensures last { OnOk result (self.new.last ≡ number) }
         ensures err { OnErr result (KeepsCalls self.old self.new) }
     {
         let order = self.order.end();
@@ -61,21 +69,11 @@ impl Caller {
             self.replies.note_over(reply);
             return Err(error);
         }
-        Ok(CallPlaces { order, reply })
+        self.last = number;
+        Ok(CallPlaces {
+            caller,
+            order,
+            reply,
+        })
     }
-
-    /// Whether no part is left in its order, and no reply is owed.
-    pub(crate) fn is_idle(&self) -> bool
-        ensures { IsTrue result ↔ HasNothing self.now.order self.now.replies }
-    {
-        !has_parts(&self.order) && self.replies.next_reply().is_none()
-    }
-}
-
-/// Whether a part is left.
-fn has_parts(order: &CallerOrder) -> bool
-    ensures { IsTrue result ↔ (0 < length order.now.parts) }
-{
-    let end = order.end();
-    end > 0 && order.part(end - 1).is_some()
 }

@@ -1,13 +1,13 @@
 //! The callers of a session.
 
-ghost use Rattle.std.specs.Prelude.{◌≡◌, ◌+◌, ◌<◌, ◌≤◌, ◌↔◌, ℕ, true, false, IsTrue, Some, None, IfOk, OnOk, OnErr, IfSome, IfNone, slice_get};
+ghost use Rattle.std.specs.Prelude.{◌≡◌, ◌+◌, ◌<◌, ◌≤◌, ℕ, true, false, Some, None, IfOk, OnOk, OnErr, IfSome, IfNone, slice_get};
 ghost use Rattle.std.specs.Ordering.{nat_cmp};
 ghost use Rattle.std.specs.BTreeMap.{get};
 ghost use Rattle.session_core.specs.declared.ordered_part.Status.TheVariants.{Waits, Asked, Settled, Unsent};
 ghost use Rattle.session_core.specs.Order.{no_order, IsTrimmed, MayAsk, MayJoin, IsOf, Offers, NamesWaiting, IsWaiting, IsOnItsWay, IsOvertaken, joined, with_status, trimmed};
 ghost use Rattle.session_core.specs.Replies.{no_replies, owes, without_place, HaveBegun, IsOwed};
 ghost use Rattle.redis_session.specs.Ties.{end_of, given_up, OrderGoes};
-ghost use Rattle.redis_session.specs.Callers.{order_of, replies_of, IsIdle, OthersKept, CallsKept};
+ghost use Rattle.redis_session.specs.Callers.{order_of, replies_of, last_of, OthersKept, OnlyOrder, OnlyReplies, CallsKept, ForgetsAfter};
 
 use crate::caller::{CallPlaces, Caller};
 use crate::giving_up::give_up;
@@ -18,7 +18,8 @@ use std::collections::BTreeMap;
 /// The callers of a session, by the numbers that its users choose for them.
 ///
 /// Each has its own order of parts ([`CallerOrder`]) and its own replies that it is owed
-/// ([`session_core::Replies`]). A number that was not used yet is a caller without calls.
+/// ([`session_core::Replies`]). A number that was not used yet, or was forgotten, is a caller without
+/// calls.
 ///
 /// A call takes a time that grows with the logarithm of the number of callers and of the parts of one,
 /// averaged over the calls.
@@ -32,6 +33,7 @@ impl Callers {
     pub(crate) fn new(alloc: Global) -> Callers
         ensures order { (caller : ℕ) → order_of caller result ≡ no_order }
         ensures replies { (caller : ℕ) → replies_of caller result ≡ no_replies }
+        ensures last { (caller : ℕ) → last_of caller result ≡ None }
     {
         Callers {
             callers: BTreeMap::new(alloc),
@@ -53,16 +55,18 @@ impl Callers {
         orders: &[PartOrder],
     ) -> Result<CallPlaces, AllocError>
         requires { MayJoin number orders.now (order_of caller self.old) }
+        ensures caller { IfOk result (λ places. places.caller ≡ caller) }
         ensures place { IfOk result (λ places. places.order ≡ end_of (order_of caller self.old)) }
         ensures reply { IfOk result (λ places. places.reply ≡ (replies_of caller self.old).next_place) }
         ensures joined { OnOk result (order_of caller self.new ≡ joined number orders.now (order_of caller self.old)) }
         ensures owed { OnOk result (replies_of caller self.new ≡ owes number (replies_of caller self.old)) }
         ensures begun { OnOk result (HaveBegun (replies_of caller self.old)) }
+        ensures last { OnOk result (last_of caller self.new ≡ Some number) }
         ensures others { OthersKept caller self.old self.new }
         ensures err { OnErr result (CallsKept self.old self.new) }
     {
         match self.callers.get_mut(&caller) {
-            Some(entry) => entry.begin(alloc, number, orders),
+            Some(entry) => entry.begin(alloc, caller, number, orders),
             None => self.begin_first(alloc, caller, number, orders),
         }
     }
@@ -113,8 +117,7 @@ impl Callers {
     pub(crate) fn note_asked(&mut self, caller: u64, place: u64, link: usize)
         requires { MayAsk place link (order_of caller self.old) }
         ensures order { order_of caller self.new ≡ with_status place (Asked link) (order_of caller self.old) }
-        ensures replies { replies_of caller self.new ≡ replies_of caller self.old }
-        ensures others { OthersKept caller self.old self.new }
+        ensures only { OnlyOrder caller self.old self.new }
     {
         if let Some(entry) = self.callers.get_mut(&caller) {
             entry.order.note_asked(place, link);
@@ -127,8 +130,7 @@ impl Callers {
     pub(crate) fn note_refused(&mut self, caller: u64, place: u64)
         requires { IsOnItsWay place (order_of caller self.old) }
         ensures order { order_of caller self.new ≡ with_status place Waits (order_of caller self.old) }
-        ensures replies { replies_of caller self.new ≡ replies_of caller self.old }
-        ensures others { OthersKept caller self.old self.new }
+        ensures only { OnlyOrder caller self.old self.new }
     {
         if let Some(entry) = self.callers.get_mut(&caller) {
             entry.order.note_refused(place);
@@ -139,8 +141,7 @@ impl Callers {
     pub(crate) fn note_settled(&mut self, caller: u64, place: u64)
         requires { IsOnItsWay place (order_of caller self.old) }
         ensures order { order_of caller self.new ≡ trimmed (with_status place Settled (order_of caller self.old)) }
-        ensures replies { replies_of caller self.new ≡ replies_of caller self.old }
-        ensures others { OthersKept caller self.old self.new }
+        ensures only { OnlyOrder caller self.old self.new }
     {
         if let Some(entry) = self.callers.get_mut(&caller) {
             entry.order.note_settled(place);
@@ -151,8 +152,7 @@ impl Callers {
     pub(crate) fn note_unsent(&mut self, caller: u64, place: u64)
         requires { IsWaiting place (order_of caller self.old) }
         ensures order { order_of caller self.new ≡ trimmed (with_status place Unsent (order_of caller self.old)) }
-        ensures replies { replies_of caller self.new ≡ replies_of caller self.old }
-        ensures others { OthersKept caller self.old self.new }
+        ensures only { OnlyOrder caller self.old self.new }
     {
         if let Some(entry) = self.callers.get_mut(&caller) {
             entry.order.note_unsent(place);
@@ -166,8 +166,7 @@ impl Callers {
     pub(crate) fn note_all_unsent(&mut self, caller: u64, place: u64, count: usize)
         requires { place + count ≤ end_of (order_of caller self.old) }
         ensures order { OrderGoes (given_up place count) (order_of caller self.old) (order_of caller self.new) }
-        ensures replies { replies_of caller self.new ≡ replies_of caller self.old }
-        ensures others { OthersKept caller self.old self.new }
+        ensures only { OnlyOrder caller self.old self.new }
     {
         if let Some(entry) = self.callers.get_mut(&caller) {
             give_up(&mut entry.order, place, count);
@@ -187,34 +186,33 @@ impl Callers {
     /// Notes that a call is owed no reply any more: its reply went out, or it was given up.
     pub(crate) fn note_over(&mut self, caller: u64, place: u64)
         requires { IsOwed place (replies_of caller self.old) }
-        ensures order { order_of caller self.new ≡ order_of caller self.old }
         ensures owed { (replies_of caller self.new).owed ≡ without_place place (replies_of caller self.old).owed }
-        ensures others { OthersKept caller self.old self.new }
+        ensures only { OnlyReplies caller self.old self.new }
     {
         if let Some(entry) = self.callers.get_mut(&caller) {
             entry.replies.note_over(place);
         }
     }
 
-    /// Whether a caller has no part left in its order, and is owed no reply.
-    ///
-    /// [`Callers::forget`] then frees what is kept of it.
-    pub(crate) fn is_idle(&self, caller: u64) -> bool
-        ensures { IsTrue result ↔ IsIdle caller self.now }
+    /// Forgets a caller, if this was its last call. Its places begin at 0 again.
+    pub(crate) fn forget_after(&mut self, caller: u64, call: u64)
+        ensures { ForgetsAfter caller call self.old self.new }
     {
-        match self.callers.get(&caller) {
-            Some(entry) => entry.is_idle(),
-            None => true,
+        if !self.is_last(caller, call) {
+            return;
         }
+        self.callers.remove(&caller);
     }
 
-    /// Forgets a caller with all its calls. Its places begin at 0 again.
-    pub(crate) fn forget(&mut self, caller: u64)
-        ensures order { order_of caller self.new ≡ no_order }
-        ensures replies { replies_of caller self.new ≡ no_replies }
-        ensures others { OthersKept caller self.old self.new }
+    /// Whether this was the last call of a caller of which something is kept.
+    fn is_last(&self, caller: u64, call: u64) -> bool
+        ensures yes { result ≡ true → last_of caller self.now ≡ Some call }
+        ensures no { result ≡ false → last_of caller self.now ≡ Some call → ⊥ }
     {
-        self.callers.remove(&caller);
+        match self.callers.get(&caller) {
+            Some(entry) => entry.last == call,
+            None => false,
+        }
     }
 
     /// The order of a caller, if something is kept of it.
@@ -238,16 +236,18 @@ impl Callers {
     ) -> Result<CallPlaces, AllocError>
         requires unknown { get nat_cmp self.old.callers caller ≡ None }
         requires joins { MayJoin number orders.now (order_of caller self.old) }
+        ensures caller { IfOk result (λ places. places.caller ≡ caller) }
         ensures place { IfOk result (λ places. places.order ≡ end_of (order_of caller self.old)) }
         ensures reply { IfOk result (λ places. places.reply ≡ (replies_of caller self.old).next_place) }
         ensures joined { OnOk result (order_of caller self.new ≡ joined number orders.now (order_of caller self.old)) }
         ensures owed { OnOk result (replies_of caller self.new ≡ owes number (replies_of caller self.old)) }
         ensures begun { OnOk result (HaveBegun (replies_of caller self.old)) }
+        ensures last { OnOk result (last_of caller self.new ≡ Some number) }
         ensures others { OthersKept caller self.old self.new }
         ensures err { OnErr result (CallsKept self.old self.new) }
     {
         let mut entry = Caller::new(alloc);
-        let places = entry.begin(alloc, number, orders)?;
+        let places = entry.begin(alloc, caller, number, orders)?;
         self.callers.insert(caller, entry)?;
         Ok(places)
     }

@@ -8,7 +8,7 @@ ghost use Rattle.session_core.specs.declared.replies.OwedReply.{OwedReply};
 ghost use Rattle.session_core.specs.Part.{PartState};
 ghost use Rattle.redis_session.specs.Ties.{is_ordered, end_of};
 ghost use Rattle.redis_session.specs.declared.caller.CallPlaces.{CallPlaces};
-ghost use Rattle.redis_session.specs.Callers.{order_of, replies_of, OthersKept};
+ghost use Rattle.redis_session.specs.Callers.{order_of, replies_of, OnlyOrder};
 ghost use Rattle.redis_session.specs.Begun.{ordered_of};
 ghost use Rattle.redis_session.specs.Kept.{PartGoes, CallGoes, CanFollow, Follows};
 
@@ -142,8 +142,7 @@ fn note_never(callers: &mut Callers, caller: u64, place: u64)
     requires { IsOnItsWay place (order_of caller callers.old) }
     ensures order { order_of caller callers.new
         ≡ trimmed (with_status place Unsent (with_status place Waits (order_of caller callers.old))) }
-    ensures replies { replies_of caller callers.new ≡ replies_of caller callers.old }
-    ensures others { OthersKept caller callers.old callers.new }
+    ensures only { OnlyOrder caller callers.old callers.new }
 {
     callers.note_refused(caller, place);
     callers.note_unsent(caller, place);

@@ -7,6 +7,7 @@ ghost use Rattle.session_core.specs.Channel.{Channel, to_write};
 ghost use Rattle.session_core.specs.Part.{PartState, is_waiting};
 ghost use Rattle.redis_session.specs.Ties.{AreOrdered, AreFree};
 ghost use Rattle.session_core.specs.LinkEvents as link;
+ghost use Rattle.redis_session.specs.Begun.{HaveRequests};
 ghost use Rattle.redis_session.specs.Links.{HasReply};
 ghost use Rattle.redis_session.specs.Puts.{put_for};
 ghost use Rattle.redis_session.specs.Took.{IsTook};
@@ -40,7 +41,7 @@ pub struct Session {
     /// How many calls were forgotten, which are the first ones.
     first: u64,
     calls: Calls,
-    /// Where each call stands among those of its caller.
+    /// The caller of each call, and where the call stands among those of its caller.
     places: VecDeque<CallPlaces>,
     callers: Callers,
     /// How many parts began.
@@ -181,13 +182,14 @@ impl Session {
         true
     }
 
-    /// Begins a call of these parts, each of which waits. Two of them have two slots, if they have any.
-    /// Either each is free of the order, or none is. Returns its number.
+    /// Begins a call of these parts, each of which waits and has a request. Two of them have two slots, if
+    /// they have any. Either each is free of the order, or none is. Returns its number.
     ///
     /// # Errors
     ///
     /// If memory runs out, or 2^64 - 1 calls or parts began. Nothing changes then.
     pub fn begin(&mut self, alloc: Global, caller: u64, parts: Vec<Part>) -> Result<u64, AllocError>
+        requires some { HaveRequests parts.items }
         requires wait { list_all (λ p. is_waiting p.phase) parts.items ≡ true }
         requires apart { AreApart parts.items }
         requires alike { AreOrdered parts.items ⊎ AreFree parts.items }
@@ -309,7 +311,8 @@ impl Session {
         true
     }
 
-    /// Forgets the place of the first call, if its parts were forgotten. Returns whether it did.
+    /// Forgets the place of the first call, if its parts were forgotten. Returns whether it did. With the
+    /// last call of a caller, all that is kept of the caller goes.
     pub fn trim(&mut self) -> bool
         ensures trimmed { result ≡ true → Happens self.old Trim self.new }
         ensures not { result ≡ false → self.new ≡ self.old }
@@ -321,6 +324,8 @@ impl Session {
         if !front.is_left() {
             return false;
         }
+        let caller = self.places[0].caller;
+        self.callers.forget_after(caller, self.first);
         self.calls.pop_front();
         self.places.pop_front();
         self.first += 1;
@@ -384,11 +389,9 @@ impl Session {
         ensures asked { result ≡ Ok true → (request : List ℕ)
             × Happens self.old (On number (link.Put (put_for false call part request))) self.new }
         ensures not { result ≡ Ok false → self.new ≡ self.old }
-        ensures why { result ≡ Ok false → (request : List ℕ) → MayAsk self.old number call part request
-            → 0 < length request → ⊥ }
+        ensures why { result ≡ Ok false → (request : List ℕ) → MayAsk self.old number call part request → ⊥ }
         ensures err { OnErr result (self.new ≡ self.old) }
-        ensures might { OnErr result ((request : List ℕ) × MayAsk self.old number call part request
-            × (0 < length request)) }
+        ensures might { OnErr result ((request : List ℕ) × MayAsk self.old number call part request) }
     {
         self.put(number, call, part, false)
     }
@@ -404,11 +407,9 @@ impl Session {
         ensures asked { result ≡ Ok true → (request : List ℕ)
             × Happens self.old (On number (link.Put (put_for true call part request))) self.new }
         ensures not { result ≡ Ok false → self.new ≡ self.old }
-        ensures why { result ≡ Ok false → (request : List ℕ) → MayAsk self.old number call part request
-            → 0 < length request → ⊥ }
+        ensures why { result ≡ Ok false → (request : List ℕ) → MayAsk self.old number call part request → ⊥ }
         ensures err { OnErr result (self.new ≡ self.old) }
-        ensures might { OnErr result ((request : List ℕ) × MayAsk self.old number call part request
-            × (0 < length request)) }
+        ensures might { OnErr result ((request : List ℕ) × MayAsk self.old number call part request) }
     {
         self.put(number, call, part, true)
     }
@@ -540,19 +541,14 @@ impl Session {
         ensures asked { result ≡ Ok true → (request : List ℕ)
             × Happens self.old (On number (link.Put (put_for asks call part request))) self.new }
         ensures not { result ≡ Ok false → self.new ≡ self.old }
-        ensures why { result ≡ Ok false → (request : List ℕ) → MayAsk self.old number call part request
-            → 0 < length request → ⊥ }
+        ensures why { result ≡ Ok false → (request : List ℕ) → MayAsk self.old number call part request → ⊥ }
         ensures err { OnErr result (self.new ≡ self.old) }
-        ensures might { OnErr result ((request : List ℕ) × MayAsk self.old number call part request
-            × (0 < length request)) }
+        ensures might { OnErr result ((request : List ℕ) × MayAsk self.old number call part request) }
     {
         let Some((state, it)) = waiting(self.first, &self.calls, call, part) else {
             return Ok(false);
         };
         if !state.is_wanted() {
-            return Ok(false);
-        }
-        if it.request().is_empty() {
             return Ok(false);
         }
         let caller = state.caller();

@@ -114,7 +114,7 @@ kept_wanted true h = absurd (false≢true h)
 kept_wanted false h = refl
 
 -- a call that is wanted after an event which begins none was wanted before
-held_before : {s : State} {caller call : ℕ} (e : Event) → May e s → call < begun s → IsHeld (after e s) caller call → IsHeld s caller call × (unwants call e ≡ false)
+pub held_before : {s : State} {caller call : ℕ} (e : Event) → May e s → call < begun s → IsHeld (after e s) caller call → IsHeld s caller call × (unwants call e ≡ false)
 held_before {s = s} {call = call} e may bound w = elim (call_came e call s w.state may bound w.call_is) [
   | inl c ↦
       let both : (c.0.is_wanted && not (unwants call e)) ≡ true = sym c.2.wanted ∙ w.wanted in (
@@ -130,7 +130,7 @@ held_after {s = s} {call = call} e may kept w = elim (call_goes e call s w.state
   | inr v ↦ absurd (false≢true (sym v.unwanted ∙ w.wanted))
 ]
 
-held_bound : {caller call : ℕ} (s : State) (e : Event) → May e s → new_calls e ≡ 0 → IsHeld (after e s) caller call → call < begun s
+pub held_bound : {caller call : ℕ} (s : State) (e : Event) → May e s → new_calls e ≡ 0 → IsHeld (after e s) caller call → call < begun s
 held_bound {call = call} s e may none w = omega (arith, has_begun call (after e s) w.state w.call_is, begun_after e s may, none)
 
 one_held : {s : State} {caller other call : ℕ} → IsHeld s caller call → IsHeld s other call → caller ≡ other
@@ -398,4 +398,21 @@ owed_same {places = places} new o same = record {
   wanted = λ call state is w. subst (λ rs. Contains rs (record { place = places call; number = call })) (sym (same state.caller)) (o.wanted call state is w);
   comes = λ caller reply c. o.comes caller reply (subst (λ rs. Contains rs reply) (same caller) c);
   rising = λ caller i j a b lt ea eb. o.rising caller i j a b lt (ap (λ rs. slice_get rs i) (sym (same caller)) ∙ ea) (ap (λ rs. slice_get rs j) (sym (same caller)) ∙ eb);
+}
+
+-- a caller without calls that are wanted may be owed nothing
+pub owed_without : {s : State} {places : ℕ → ℕ} {replies : ℕ → Replies} (caller : ℕ) (new : ℕ → Replies) → AreOwed s places replies → ((call : ℕ) → IsHeld s caller call → ⊥) → new caller ≡ no_replies
+    → ((other : ℕ) → other ≢ caller → new other ≡ replies other) → AreOwed s places new
+owed_without {places = places} caller new o none empty others = record {
+  wanted = λ call state is w.
+      let ne : state.caller ≢ caller = λ same. none call (record { state = state; call_is = is; caller_is = same; wanted = w }) in
+      subst (λ (r : Replies). Contains r.owed (record { place = places call; number = call })) (sym (others state.caller ne)) (o.wanted call state is w);
+  comes = λ c reply now. elim (cases_eq c caller) [
+    | inl own ↦ absurd (nothing_in reply (subst (λ (r : Replies). Contains r.owed reply) (ap new own ∙ empty) now))
+    | inr ne ↦ o.comes c reply (subst (λ (r : Replies). Contains r.owed reply) (others c ne) now)
+  ];
+  rising = λ c i j a b lt ea eb. elim (cases_eq c caller) [
+    | inl own ↦ let no : None ≡ Some a = ap (λ (r : Replies). slice_get r.owed i) (sym (ap new own ∙ empty)) ∙ ea in absurd (cc)
+    | inr ne ↦ o.rising c i j a b lt (ap (λ (r : Replies). slice_get r.owed i) (sym (others c ne)) ∙ ea) (ap (λ (r : Replies). slice_get r.owed j) (sym (others c ne)) ∙ eb)
+  ];
 }

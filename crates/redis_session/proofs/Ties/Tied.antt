@@ -274,6 +274,23 @@ tied_start places orders none = record {
     nothing : (caller call part : ℕ) (p : PartState) → Has start caller call part p → ⊥
     nothing caller call part p has = let no : None ≡ Some has.state = sym (not_begun call start (omega arith)) ∙ has.call_is in cc
 
+-- a caller without parts may have an empty order
+pub tied_without : {s : State} {places : ℕ → ℕ} {orders : ℕ → Order} (caller : ℕ) (new : ℕ → Order) → AreTied s places orders → ((call part : ℕ) (p : PartState) → Has s caller call part p → ⊥) → new caller ≡ no_order
+    → ((other : ℕ) → other ≢ caller → new other ≡ orders other) → AreTied s places new
+tied_without {s = s} {places = places} {orders = orders} caller new t none empty others = record {
+  forgotten = λ c call part p has o lt. t.forgotten c call part p has o (subst (λ (x : Order). places call + part < x.first) (same c call part p has) lt);
+  stands = λ c call part p has o le. ap (ordered_at (places call + part)) (same c call part p has) ∙ t.stands c call part p has o (subst (λ (x : Order). x.first ≤ places call + part) (same c call part p has) le);
+  comes = λ c at x e. elim (cases_eq c caller) [
+    | inl own ↦ let no : None ≡ Some x = sym (none_at {X = OrderedPart} at 0 [] refl) ∙ ap (ordered_at at) (sym (ap new own ∙ empty)) ∙ e in absurd (cc)
+    | inr ne ↦ t.comes c at x (ap (ordered_at at) (sym (others c ne)) ∙ e)
+  ];
+  rising = t.rising;
+  alike = t.alike;
+}
+  where
+    same : (c call part : ℕ) (p : PartState) → Has s c call part p → new c ≡ orders c
+    same c call part p has = others c (λ own. none call part p (subst (λ n. Has s n call part p) own has))
+
 -- the orders may be told by another function that is the same for each caller
 pub tied_orders : {s : State} {places : ℕ → ℕ} {orders : ℕ → Order} (other : ℕ → Order) → AreTied s places orders → ((caller : ℕ) → other caller ≡ orders caller) → AreTied s places other
 tied_orders {s = s} {places = places} {orders = orders} other t same = record {

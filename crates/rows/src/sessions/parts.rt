@@ -4,19 +4,41 @@ ghost use Rattle.std.specs.Prelude.{◌≡◌, ◌<◌, ◌⊎◌, true, false, 
 ghost use Rattle.std.specs.List.{list_all};
 ghost use Rattle.session_core.specs.Part.{PartState, is_waiting, have_slot};
 ghost use Rattle.session_core.specs.State.{AreApart};
+ghost use Rattle.redis_session.specs.Begun.{HaveRequests};
 ghost use Rattle.redis_session.specs.Ties.{is_ordered, AreOrdered, AreFree};
 
 use redis_session::Part;
 use session_core::PartOrder;
 
-/// Whether parts can be those of one call: each waits, no two have one slot, and each is free of the
-/// order or none is.
+/// Whether parts can be those of one call: each has a request and waits, no two have one slot, and each
+/// is free of the order or none is.
 pub fn can_begin(parts: &[Part]) -> bool
+    ensures some { result ≡ true → HaveRequests parts.now }
     ensures waiting { result ≡ true → list_all (λ p. is_waiting p.phase) parts.now ≡ true }
     ensures apart { result ≡ true → AreApart parts.now }
     ensures alike { result ≡ true → AreOrdered parts.now ⊎ AreFree parts.now }
 {
-    are_waiting(parts) && are_apart(parts) && (are_ordered(parts) || are_free(parts))
+    have_requests(parts)
+        && are_waiting(parts)
+        && are_apart(parts)
+        && (are_ordered(parts) || are_free(parts))
+}
+
+fn have_requests(parts: &[Part]) -> bool
+    ensures { result ≡ true → HaveRequests parts.now }
+{
+    for at in 0..parts.len() {
+        if !has_request(&parts[at]) {
+            return false;
+        }
+    }
+    true
+}
+
+fn has_request(part: &Part) -> bool
+    ensures { result ≡ true → 0 < length part.now.request }
+{
+    part.request().len() > 0
 }
 
 fn are_waiting(parts: &[Part]) -> bool

@@ -16,7 +16,7 @@ returns-in-Waits c =
     subst (λ (st : Status). PartGoes c.args.caller c.args.place c.args.order st c.args.callers.now c.note_refused.new.self) (sym c.in-Waits.is)
     (part_goes c.args.caller c.args.place c.args.order Waits c.args.callers.now c.note_refused.new.self o
     (goes_back c.args.place old (order_of c.args.caller c.note_refused.new.self) (c.requires.on_way o) c.note_refused.ensures.order)
-    c.note_refused.ensures.replies c.note_refused.ensures.others)
+    c.note_refused.ensures.only)
 
 pub returns-in-Settled : goal.returns-in-Settled
 returns-in-Settled c =
@@ -25,7 +25,7 @@ returns-in-Settled c =
     subst (λ (st : Status). PartGoes c.args.caller c.args.place c.args.order st c.args.callers.now c.note_settled.new.self) (sym c.in-Settled.is)
     (part_goes c.args.caller c.args.place c.args.order Settled c.args.callers.now c.note_settled.new.self o
     (goes_settled c.args.place old (order_of c.args.caller c.note_settled.new.self) (c.requires.on_way o) c.note_settled.ensures.order)
-    c.note_settled.ensures.replies c.note_settled.ensures.others)
+    c.note_settled.ensures.only)
 
 pub returns-in-Unsent : goal.returns-in-Unsent
 returns-in-Unsent c =
@@ -34,4 +34,4 @@ returns-in-Unsent c =
     subst (λ (st : Status). PartGoes c.args.caller c.args.place c.args.order st c.args.callers.now c.note_never.new.callers) (sym c.in-Unsent.is)
     (part_goes c.args.caller c.args.place c.args.order Unsent c.args.callers.now c.note_never.new.callers o
     (goes_never c.args.place old (order_of c.args.caller c.note_never.new.callers) (c.requires.on_way o) c.note_never.ensures.order)
-    c.note_never.ensures.replies c.note_never.ensures.others)
+    c.note_never.ensures.only)

@@ -1,3 +1,4 @@
+use Rattle.std.proofs.Common.{refl}
 use Rattle.redis_session.proofs.OwedReplies.{owed_last, taken_back}
 use Rattle.redis_session.proofs.caller.Caller.begin.Goals as goal
 
@@ -10,4 +11,5 @@ returns-in-Err-clause-err c =
     record {
       order = c.in-Err.ensures.err;
       owed = taken_back c.args.number c.in_ok-reply.reply c.args.self.now.replies c.begin.new.self c.note_over.new.self r.begun r.place r.owed c.note_over.ensures.owed;
+      last = refl;
     }

@@ -1,10 +1,11 @@
-use Rattle.std.proofs.Common.{ℕ, OnOk, subst}
+use Rattle.std.proofs.Common.{ℕ, OnOk, Some, ap, ◌∙◌, subst}
 use Rattle.std.specs.BTreeMap.{BTreeMap}
 use Rattle.session_core.specs.Order.{MayJoin}
 use Rattle.session_core.specs.Replies.{HaveBegun}
 use Rattle.redis_session.specs.declared.caller.Caller.{Caller}
 use Rattle.redis_session.specs.Callers.{replies_of}
-use Rattle.redis_session.proofs.CallerMaps.{order_by, there, lent, err_kept}
+use Rattle.redis_session.proofs.CallerMaps.{order_by, there, lent, last_by, err_kept}
+use Rattle.redis_session.proofs.Outcomes.{on_ok}
 use Rattle.redis_session.proofs.callers.Callers.begin.Goals as goal
 
 pub begin-requires : goal.begin-requires
@@ -52,7 +53,7 @@ returns-in-Some-clause-err c =
     let was = c.in-Some.entry.now in
     let now = c.begin.new.self in
     let w = lent c.args.caller c.args.self.now (c.get_mut.follows.lender now) was now c.in-Some.ensures.value (c.get_mut.follows.holds now) in
-    err_kept c.args.caller was now c.args.self.now (record { callers = c.get_mut.follows.lender now }) c.begin.result w c.begin.ensures.err
+    err_kept c.args.caller was now c.args.self.now (record { callers = c.get_mut.follows.lender now }) c.begin.result (last_by c.args.caller c.args.self.now (Some was) c.in-Some.ensures.value) w c.begin.ensures.err
 
 pub returns-in-Some-clause-begun : goal.returns-in-Some-clause-begun
 returns-in-Some-clause-begun c =
@@ -60,6 +61,13 @@ returns-in-Some-clause-begun c =
     let now = c.begin.new.self in
     let w = lent c.args.caller c.args.self.now (c.get_mut.follows.lender now) was now c.in-Some.ensures.value (c.get_mut.follows.holds now) in
     rw w.was_replies c.begin.ensures.begun
+
+pub returns-in-Some-clause-last : goal.returns-in-Some-clause-last
+returns-in-Some-clause-last c =
+    let was = c.in-Some.entry.now in
+    let now = c.begin.new.self in
+    let w = lent c.args.caller c.args.self.now (c.get_mut.follows.lender now) was now c.in-Some.ensures.value (c.get_mut.follows.holds now) in
+    on_ok c.begin.result c.begin.ensures.last (λ last. w.last ∙ ap Some last)
 
 pub returns-in-None-clause-begun : goal.returns-in-None-clause-begun
 returns-in-None-clause-begun c =

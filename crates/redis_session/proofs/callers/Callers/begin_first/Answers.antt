@@ -1,4 +1,4 @@
-use Rattle.std.proofs.Common.{sym, ap, subst, ◌∙◌}
+use Rattle.std.proofs.Common.{Some, sym, ap, subst, ◌∙◌}
 use Rattle.session_core.specs.Order.{MayJoin, joined}
 use Rattle.session_core.specs.Replies.{Replies, owes, HaveBegun}
 use Rattle.redis_session.specs.Ties.{end_of}
@@ -51,3 +51,9 @@ returns-clause-begun c =
     let none = missing c.args.caller c.args.self.now (sym c.requires.unknown) ∙ sym c.new-entry.ensures in
     let w = written c.args.caller c.new-entry.result c.begin.new.self c.args.self.now (record { callers = c.insert.new.self }) none c.in_ok-insert.ensures.updates in
     subst HaveBegun (sym w.was_replies) c.in_ok-places.ensures.begun
+
+pub returns-clause-last : goal.returns-clause-last
+returns-clause-last c =
+    let none = missing c.args.caller c.args.self.now (sym c.requires.unknown) ∙ sym c.new-entry.ensures in
+    let w = written c.args.caller c.new-entry.result c.begin.new.self c.args.self.now (record { callers = c.insert.new.self }) none c.in_ok-insert.ensures.updates in
+    w.last ∙ ap Some c.in_ok-places.ensures.last

@@ -1,5 +1,5 @@
 use Rattle.redis_session.specs.Caller.{no_calls}
-use Rattle.redis_session.proofs.CallerMaps.{order_by, replies_by, empty}
+use Rattle.redis_session.proofs.CallerMaps.{order_by, replies_by, empty, unknown}
 use Rattle.redis_session.proofs.callers.Callers.new.Goals as goal
 
 pub returns-clause-order : goal.returns-clause-order
@@ -7,3 +7,6 @@ returns-clause-order c = λ caller. order_by caller (record { callers = c.new.re
 
 pub returns-clause-replies : goal.returns-clause-replies
 returns-clause-replies c = λ caller. replies_by caller (record { callers = c.new.result }) no_calls (empty caller (record { callers = c.new.result }) c.new.ensures.empty)
+
+pub returns-clause-last : goal.returns-clause-last
+returns-clause-last c = λ caller. unknown caller (record { callers = c.new.result }) c.new.ensures.empty

@@ -39,5 +39,5 @@ invariant_of-self-2 c =
     c.push_back_reserved-2.ensures.items ∙ ap (λ (ps : List CallPlaces). ps ++ c.in_ok-places.places ∷ []) c.reserve-2.ensures.items in
     let total : c.in-Some.began ≡ c.self.inside.began + length c.args.parts.items = omega (arith, c.in-Some.ensures, c.len-2.ensures) in
     let room : call + 1 < 2 ^ 64 = omega (arith, is, c.self.invariant.fits, c.if-call.false) in
-    begin_kept s c.self.invariant call c.args.caller c.args.parts.items c.in_ok-places.places c.begin.new.self c.push_back_reserved.new.self.items is c.requires.wait c.requires.apart c.requires.alike
-    e.place e.reply (e.joined ∙ ap (λ os. joined call os (order_of c.args.caller c.self.inside.callers)) orders) e.owed e.begun e.others calls_are c.push_back_reserved-2.new.self.items c.in-Some.began more_is total room
+    begin_kept s c.self.invariant call c.args.caller c.args.parts.items c.in_ok-places.places c.begin.new.self c.push_back_reserved.new.self.items is c.requires.wait c.requires.apart c.requires.alike c.requires.some
+    e.caller e.place e.reply (e.joined ∙ ap (λ os. joined call os (order_of c.args.caller c.self.inside.callers)) orders) e.owed e.begun e.last e.others calls_are c.push_back_reserved-2.new.self.items c.in-Some.began more_is total room

@@ -4,7 +4,7 @@ use Rattle.std.proofs.lemmas.Option.{same_Some}
 use Rattle.session_core.specs.declared.replies.OwedReply.{OwedReply}
 use Rattle.session_core.specs.Replies.{without_place}
 use Rattle.session_core.specs.State.{State}
-use Rattle.redis_session.specs.Callers.{order_of, replies_of, OthersKept}
+use Rattle.redis_session.specs.Callers.{replies_of, OnlyReplies}
 use Rattle.redis_session.proofs.Finishing.{owed_first, finish_first, finish_happens, finish_kept}
 use Rattle.redis_session.proofs.session.Session.finish.Goals as goal
 
@@ -35,9 +35,8 @@ invariant_of-self c =
     let new = c.note_over.new.self in
     let old = c.self.inside.callers in
     finish_kept s c.self.invariant c.args.call it c.in-Some-next_reply.next c.note_replied.new.calls.items c.in-Some.ensures.some wanted none_waits is c.if-next-call.false c.note_replied.ensures new
-    (subst (λ (n : ℕ). order_of n new ≡ order_of n old) own o.order)
     (subst (λ (n : ℕ). (replies_of n new).owed ≡ without_place c.in-Some-next_reply.next.place (replies_of n old).owed) own o.owed)
-    (subst (λ (n : ℕ). OthersKept n old new) own o.others)
+    (subst (λ (n : ℕ). OnlyReplies n old new) own o.only)
 
 pub returns-clause-finished : goal.returns-clause-finished
 returns-clause-finished c = λ _.

@@ -1,7 +1,7 @@
 use Rattle.std.proofs.Common.{◌≡◌, Some, ◌<◌, ◌≤◌, ◌+◌, ◌^◌, ℕ, true, length, ap, sym, ◌∙◌, subst, arith}
 use Rattle.session_core.specs.Replies.{without_place, IsOwed}
 use Rattle.session_core.specs.State.{State, call_at}
-use Rattle.redis_session.specs.Callers.{order_of, replies_of, OthersKept}
+use Rattle.redis_session.specs.Callers.{order_of, replies_of, OnlyReplies}
 use Rattle.redis_session.specs.Ties.{end_of}
 use Rattle.redis_session.specs.Kept.{CallGoes}
 use Rattle.redis_session.proofs.Keeping.{call_stands}
@@ -56,7 +56,7 @@ note_over-requires c =
     let old = c.self.inside.callers in
     let mid = c.note_given_up.new.callers in
     let goes : CallGoes state.caller c.place_of-place.result (length c.parts-count.result.now) order old mid = subst (λ (n : ℕ). CallGoes n c.place_of-place.result (length c.parts-count.result.now) order old mid) own c.note_given_up.ensures in
-    subst (λ (n : ℕ). IsOwed c.reply_place-reply.result (replies_of n mid)) (sym own) (give_owed s k c.args.call state order c.place_of-place.result (length c.parts-count.result.now) call_is first count_is c.place_of-place.ensures mid c.reply_place-reply.result wanted c.reply_place-reply.ensures goes.replies)
+    subst (λ (n : ℕ). IsOwed c.reply_place-reply.result (replies_of n mid)) (sym own) (give_owed s k c.args.call state order c.place_of-place.result (length c.parts-count.result.now) call_is first count_is c.place_of-place.ensures mid c.reply_place-reply.result wanted c.reply_place-reply.ensures goes.only.replies)
 
 pub invariant_of-self : goal.invariant_of-self
 invariant_of-self c =
@@ -76,9 +76,8 @@ invariant_of-self c =
     let new = c.note_over.new.self in
     let reply = c.reply_place-reply.result in
     give_kept s k c.args.call state order c.place_of-place.result (length c.parts-count.result.now) call_is first count_is c.place_of-place.ensures c.give_up.new.calls.items mid new reply wanted c.reply_place-reply.ensures c.give_up.ensures goes
-    (subst (λ (n : ℕ). order_of n new ≡ order_of n mid) own o.order)
     (subst (λ (n : ℕ). (replies_of n new).owed ≡ without_place reply (replies_of n mid).owed) own o.owed)
-    (subst (λ (n : ℕ). OthersKept n mid new) own o.others)
+    (subst (λ (n : ℕ). OnlyReplies n mid new) own o.only)
 
 pub returns-clause-gave_up : goal.returns-clause-gave_up
 returns-clause-gave_up c = λ _.
