@@ -1,5 +1,5 @@
 -- What is kept of each caller after the entry of one of them changed.
-use Rattle.std.proofs.Common.{inl, inr, false, List, [], ◌≡◌, ◌≢◌, ◌≤◌, ℕ, Result, Ok, Err, OnErr, Option, None, Some, refl, sym, ap, ◌∙◌, subst, arith}
+use Rattle.std.proofs.Common.{inl, inr, false, List, [], ◌≡◌, ◌≢◌, ℕ, Result, Ok, Err, OnErr, Option, None, Some, refl, sym, ap, ◌∙◌, subst, arith}
 use Rattle.std.specs.Option.{unwrap_or, option_map, IsSome}
 use Rattle.std.specs.Ordering.{nat_cmp}
 use Rattle.std.specs.Map.{lookup}

@@ -1,12 +1,12 @@
 -- The parts of a call are given up one after the other.
-use Rattle.std.proofs.Common.{inl, inr, true, ◌≡◌, ◌≢◌, ◌≤◌, ◌+◌, ◌-◌, ℕ, Some, refl, sym, ap, ◌∙◌, subst, arith}
+use Rattle.std.proofs.Common.{inl, inr, true, ◌≡◌, ◌≢◌, ◌≤◌, ◌+◌, ◌-◌, ℕ, refl, sym, ap, ◌∙◌, subst, arith}
 use Rattle.std.proofs.lemmas.Option.{same_Some}
 use Rattle.std.proofs.lemmas.Bool.{cases_lt, cases_eq}
 use Rattle.session_core.specs.declared.ordered_part.OrderedPart.{OrderedPart}
 use Rattle.session_core.specs.declared.ordered_part.Status.{Status}
 use Rattle.session_core.specs.declared.ordered_part.Status.TheVariants.{Waits, Asked, Settled, Unsent}
 use Rattle.session_core.specs.Order.{Order, no_order, ordered_at, is_done, IsWaiting, with_status, trimmed}
-use Rattle.redis_session.specs.Ties.{OrderGoes, keeps, gets, given_up, end_of}
+use Rattle.redis_session.specs.Ties.{OrderGoes, given_up, end_of}
 use Rattle.redis_session.proofs.Ties.Goes.{given_up_in, given_up_before, given_up_past, gets_here, gets_other, goes_as, goes_same, goes_then, goes_done}
 
 -- ---- the statuses

@@ -82,24 +82,24 @@ pub kept_by : {s : State} {places : List CallPlaces} {callers : Callers} {began 
 kept_by {s = s} {places = places} {began = began} e next new k h first count tied owed lasts short =
     let none : new_calls e ≡ 0 = omega (arith, begun_after e s h.may, first, count) in
     subst (λ t. IsKept t places new began) (sym h.is) (record {
-  order_places = k.order_places;
-  reply_places = k.reply_places;
-  count = k.count ∙ sym count;
-  at = λ i p is.
-      let n : (after e s).first + i ≡ s.first + i = omega (arith, first) in
-      let at = k.at i p is in
-      (ap k.order_places n ∙ at.0, ap k.reply_places n ∙ at.1);
-  reached = reached_by s e k.reached h.may;
-  tied = tied;
-  owed = owed;
-  last = last_after e (λ caller. last_of caller new) k.last h.may none first lasts;
-  some = λ caller call part p has.
-      let c = part_came h.may none has in
-      let same = ap (λ (x : PartState). length x.request) c.is in
-      omega (arith, same, k.some caller call part c.was c.has);
-  short = short;
-  fits = omega (arith, first, count, k.fits);
-})
+      order_places = k.order_places;
+      reply_places = k.reply_places;
+      count = k.count ∙ sym count;
+      at = λ i p is.
+          let n : (after e s).first + i ≡ s.first + i = omega (arith, first) in
+          let at = k.at i p is in
+          (ap k.order_places n ∙ at.0, ap k.reply_places n ∙ at.1);
+      reached = reached_by s e k.reached h.may;
+      tied = tied;
+      owed = owed;
+      last = last_after e (λ caller. last_of caller new) k.last h.may none first lasts;
+      some = λ caller call part p has.
+          let c = part_came h.may none has in
+          let same = ap (λ (x : PartState). length x.request) c.is in
+          omega (arith, same, k.some caller call part c.was c.has);
+      short = short;
+      fits = omega (arith, first, count, k.fits);
+    })
 
 -- No part changes, and as many calls are wanted.
 pub kept_quiet : {s : State} {places : List CallPlaces} {callers : Callers} {began : ℕ} (e : Event) (next : State) → IsKept s places callers began → Happens s e next → IsQuiet e

@@ -1,10 +1,10 @@
 -- The last calls of callers of which something is kept, after an event.
-use Rattle.std.proofs.Common.{◌≡◌, ◌≢◌, ◌<◌, ◌≤◌, ◌+◌, ◌-◌, inl, inr, ℕ, suc, List, drop, Option, None, Some, refl, sym, ap, ◌∙◌, subst, arith}
+use Rattle.std.proofs.Common.{◌≡◌, ◌≢◌, ◌<◌, ◌≤◌, ◌+◌, ◌-◌, inl, inr, ℕ, suc, List, drop, Option, None, Some, refl, sym, ap, ◌∙◌, arith}
 use Rattle.std.specs.List.{slice_get}
 use Rattle.std.proofs.lemmas.Bool.{cases_eq}
 use Rattle.std.proofs.lemmas.Option.{same_Some}
 use Rattle.session_core.specs.Part.{PartState}
-use Rattle.session_core.specs.State.{State, CallState, Event, Trim, Has, May, after}
+use Rattle.session_core.specs.State.{State, Event, Trim, Has, May, after}
 use Rattle.session_core.proofs.AfterEvents.{not_forgotten, new_calls}
 use Rattle.session_core.proofs.PlaceLists.{get_first_dropped}
 use Rattle.redis_session.specs.declared.caller.CallPlaces.{CallPlaces}

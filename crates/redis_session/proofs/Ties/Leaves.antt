@@ -1,17 +1,17 @@
 -- Calls are forgotten: their parts were forgotten in the orders before.
 use Rattle.std.proofs.Common.{◌≡◌, ◌<◌, ◌+◌, ◌-◌, inl, inr, ℕ, suc, true, false, eqb, length, None, Some, refl, sym, ap, ◌∙◌, subst, arith}
 use Rattle.std.specs.List.{slice_get}
-use Rattle.std.proofs.lemmas.Bool.{false≢true, eqb-true, cases_lt, cases_eq}
+use Rattle.std.proofs.lemmas.Bool.{false≢true, eqb-true, cases_eq}
 use Rattle.resp_core.proofs.Cases.{by_test}
-use Rattle.session_core.specs.Order.{Order, ordered_at}
+use Rattle.session_core.specs.Order.{Order}
 use Rattle.session_core.specs.Part.{PartState}
 use Rattle.session_core.specs.State.{CallState, State, Leave, Trim, call_at, call_after, left_call, Has, May, after}
 use Rattle.session_core.proofs.AfterEvents.{call_is, not_forgotten, same_call}
 use Rattle.session_core.proofs.PlaceLists.{get_first_dropped}
-use Rattle.redis_session.specs.Ties.{AreTied, OrderGoes, keeps, is_ordered, ordered_part}
+use Rattle.redis_session.specs.Ties.{AreTied, OrderGoes, keeps, is_ordered}
 use Rattle.redis_session.proofs.Ties.Goes.{goes_same}
 use Rattle.redis_session.proofs.Ties.Tied.{AreLeft, changed_call, tied_step}
-use Rattle.redis_session.proofs.Ties.GiveUps.{part_of, part_within}
+use Rattle.redis_session.proofs.Ties.GiveUps.{part_within}
 
 -- Each part of this call that is ordered was forgotten in the order of its caller.
 abbrev pub IsPast : (s : State) (places : ℕ → ℕ) (orders : ℕ → Order) (call : ℕ) → Type 0

@@ -1,25 +1,19 @@
 -- What happens on links, and to parts that are not asked any more: the orders stay tied.
-use Rattle.std.proofs.Common.{◌≡◌, ◌≢◌, ◌+◌, ◌&&◌, ◌||◌, ◌⊎◌, inl, inr, ℕ, Bool, true, false, eqb, List, [], ◌∷◌, refl, sym, ap, ◌∙◌, subst}
+use Rattle.std.proofs.Common.{◌≡◌, ◌+◌, ◌&&◌, ◌||◌, ◌⊎◌, inl, inr, ℕ, Bool, true, false, eqb, List, [], ◌∷◌, refl, sym, ap, ◌∙◌}
 use Rattle.std.proofs.lemmas.Bool.{eqb-true, eq-eqb}
 use Rattle.resp_core.proofs.Cases.{by_test}
 use Rattle.session_core.specs.declared.link.Ticket.{Ticket}
 use Rattle.session_core.specs.declared.link.Ticket.TheVariants.{Login, Map, Asking, Part}
-use Rattle.session_core.specs.declared.ordered_part.Status.{Status}
-use Rattle.session_core.specs.declared.ordered_part.Status.TheVariants as status
 use Rattle.session_core.specs.declared.part.Cause.{Cause}
 use Rattle.session_core.specs.Channel.{Ask}
-use Rattle.session_core.specs.History.{is_there}
 use Rattle.session_core.specs.LinkEvents as link
-use Rattle.session_core.specs.Order.{Order, IsOnItsWay, with_status, trimmed}
-use Rattle.session_core.specs.Part.{PartState, is_waiting, is_on, is_refusal, phase_asked, phase_told, phase_lost, phase_ended}
-use Rattle.session_core.specs.Part.{is_done as part_done}
+use Rattle.session_core.specs.Order.{Order, IsOnItsWay}
+use Rattle.session_core.specs.Part.{PartState, is_on, is_refusal, phase_asked, phase_told, phase_lost, phase_ended}
 use Rattle.session_core.specs.State.{State, Event, On, Begin, GiveUp, End, Leave, Trim, asks, is_part, phase_after, Has, May, after}
-use Rattle.session_core.proofs.Waiting.{IsSingle, may_ask, part_is, same_part, first_there, that_waits}
-use Rattle.redis_session.specs.Ties.{AreTied, OrderGoes, IsSteady, gets, status_of, is_ordered, ordered_part}
-use Rattle.redis_session.proofs.Ties.Parts.{status_on, waiting_undone, on_undone, one_part}
-use Rattle.redis_session.proofs.Ties.Goes.{goes_to, goes_done, goes_refused}
+use Rattle.redis_session.specs.Ties.{AreTied, IsSteady, is_ordered, ordered_part}
+use Rattle.redis_session.proofs.Ties.Parts.{status_on, on_undone}
 use Rattle.redis_session.proofs.Ties.Asks.{stands_there}
-use Rattle.redis_session.proofs.Ties.Tied.{IsOnly, tied_part, tied_free, tied_silent}
+use Rattle.redis_session.proofs.Ties.Tied.{IsOnly, tied_silent}
 
 -- ---- which part an event has the ticket of
 

@@ -1,4 +1,4 @@
-use Rattle.std.proofs.Common.{refl, ℕ, ◌+◌, ◌≤◌, ◌∙◌, subst, sym}
+use Rattle.std.proofs.Common.{refl, ℕ, ◌+◌, ◌≤◌, subst, sym}
 use Rattle.std.specs.BTreeMap.{BTreeMap}
 use Rattle.session_core.specs.Order.{Order}
 use Rattle.redis_session.specs.Ties.{end_of, given_up, OrderGoes}

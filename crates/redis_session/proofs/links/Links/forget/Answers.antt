@@ -1,4 +1,4 @@
-use Rattle.std.proofs.Common.{sym, subst, length, length-set, List, Option, None, arith}
+use Rattle.std.proofs.Common.{sym, subst, length-set, List, Option, None, arith}
 use Rattle.session_core.specs.Channel.{Channel}
 use Rattle.redis_session.specs.Links.{HasLink}
 use Rattle.redis_session.proofs.LinkSlots.{freed, has_room, forgets_at}

@@ -1,4 +1,4 @@
-use Rattle.std.proofs.Common.{◌≡◌, ◌<◌, ◌+◌, ◌∙◌, [], ◌∷◌, length, length-set, length-append, append-nil, List, Option, Some, sym, subst, ap, arith}
+use Rattle.std.proofs.Common.{◌≡◌, ◌<◌, ◌∙◌, [], ◌∷◌, length, length-set, length-append, append-nil, List, Option, Some, sym, subst, ap, arith}
 use Rattle.session_core.specs.Channel.{Channel}
 use Rattle.redis_session.specs.Free.{AreFree}
 use Rattle.redis_session.proofs.LinkSlots.{free_within, one_less_free, grown_free, none_free, opens_free, opens_next}

@@ -1,6 +1,5 @@
-use Rattle.std.proofs.Common.{◌≡◌, ◌<◌, ℕ, List, Option, None, Some, length, subst}
+use Rattle.std.proofs.Common.{◌≡◌, ◌<◌, ℕ, None, Some, length, subst}
 use Rattle.std.specs.List.{slice_get}
-use Rattle.session_core.specs.Channel.{Channel}
 use Rattle.session_core.specs.State.{State}
 use Rattle.redis_session.proofs.Outcomes.{if_ok, by_value}
 use Rattle.redis_session.proofs.Keeping.{open_happens, open_kept, same_links_kept}
