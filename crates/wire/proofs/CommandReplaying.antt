@@ -1,21 +1,21 @@
 -- One command more.
 use Rattle.std.proofs.Common.{◌≡◌, ◌⊎◌, inl, inr, ℕ, List, [], ◌∷◌, ◌++◌, Bool, cond, Option, None, Some, length, map, refl, sym, ap, ◌∙◌, subst}
-use Rattle.std.specs.Prelude.{IfSome}
-use Rattle.std.proofs.lemmas.List.{map_push}
+use Rattle.std.specs.Prelude.{Result, Ok, Err, IfSome, IfOk, IfErr, OnOk}
 use Rattle.resp_core.proofs.Cases.{by_test}
 use Rattle.resp_core.specs.ErrorParts.{ErrorParts}
 use Rattle.resp_core.specs.Reply.{Reply}
+use Rattle.resp_core.specs.View.{view}
+use Rattle.resp_core.specs.declared.value.Value.{Value}
 use Rattle.cluster_slots.specs.Address.{Address}
 use Rattle.redis_routing.specs.Registry.{Registrations}
 use Rattle.redis_cluster.specs.MultiKey.{MultiKey, multi_key}
-use Rattle.redis_cluster.specs.Trace.{entry}
 use Rattle.redis_cluster.specs.Unsplit.{Step, Keyspace, keyspace_after, reply_to}
-use Rattle.wire.specs.Said.{SendOutcome, said, answer, loss}
-use Rattle.wire.specs.Commands.{SaidCommand, after_effect, after_outcome, after_command, entry_by, outcome_ending, replay_commands, AreCommandsKept, IsAnswerKept, IsCommandKept, IsKept}
+use Rattle.redis_cluster.specs.Sends.{IsIdleIfRefused, IsLeft, ending_of}
+use Rattle.redis_cluster.specs.declared.nodes.SendError.{SendError}
+use Rattle.redis_cluster.specs.declared.nodes.SendError.TheVariants.{Refused, Redirected, Lost, Memory}
+use Rattle.wire.specs.Said.{SendOutcome, said, answer, refusal, redirection, loss, IsUnsaid}
+use Rattle.wire.specs.Commands.{SaidCommand, after_effect, after_outcome, after_command, replay_commands, AreCommandsKept, IsAnswerKept, IsCommandKept, IsKept}
 use Rattle.wire.proofs.Replaying as sends
-
-pub said_trace : (old new : List SaidCommand) (node : Address) (args : List (List ℕ)) (outcome : SendOutcome Reply) → new ≡ old ++ said node args outcome ∷ [] → map entry_by new ≡ map entry_by old ++ entry node args (outcome_ending outcome) ∷ []
-said_trace old new node args outcome grew = ap (map entry_by) grew ∙ map_push entry_by old (said node args outcome)
 
 module _ {C : Type 0} (registered : Registrations) (step : Step C) (took : ℕ → Bool) (initial : Keyspace C) (old new : List SaidCommand) (node : Address) (args : List (List ℕ)) where
   abbrev before : Keyspace C
@@ -34,7 +34,7 @@ module _ {C : Type 0} (registered : Registrations) (step : Step C) (took : ℕ �
     now_keys : now ≡ after_command registered step (took (length old)) (said node args outcome) before
     now_keys = sends.now_keys (after_command registered step) (IsCommandKept registered step) took initial old new (said node args outcome) grew
 
-    pub said_kept : KeptNow → KeptBefore
+    said_kept : KeptNow → KeptBefore
     said_kept = sends.said_kept (after_command registered step) (IsCommandKept registered step) took initial old new (said node args outcome) grew
 
     said_last : KeptNow → IsKept step (took (length old)) outcome (multi_key registered (map Some args)) before
@@ -56,7 +56,7 @@ module _ {C : Type 0} (registered : Registrations) (step : Step C) (took : ℕ �
     pub answered_reply : IfSome (multi_key registered (map Some args)) (λ command. KeptNow → reply ≡ reply_to step command before)
     answered_reply = answer_reply (multi_key registered (map Some args)) refl
 
-    pub answered_keys : IfSome (multi_key registered (map Some args)) (λ command. KeptNow → now ≡ keyspace_after step command before)
+    answered_keys : IfSome (multi_key registered (map Some args)) (λ command. KeptNow → now ≡ keyspace_after step command before)
     answered_keys = answer_keys (multi_key registered (map Some args)) refl
 
     answer_keeps : (found : Option MultiKey) → multi_key registered (map Some args) ≡ found → IfSome found (λ command. KeptBefore → reply ≡ reply_to step command before → KeptNow)
@@ -74,10 +74,10 @@ module _ {C : Type 0} (registered : Registrations) (step : Step C) (took : ℕ �
     idle_keys (Some command) = λ kept.
         now_keys outcome grew ∙ subst (λ (T : Type 0). T) (idle_is (took (length old)) (multi_key registered (map Some args)) before) (said_last outcome grew kept)
 
-    pub refused_keys : IfSome (multi_key registered (map Some args)) (λ command. KeptNow → now ≡ before)
+    refused_keys : IfSome (multi_key registered (map Some args)) (λ command. KeptNow → now ≡ before)
     refused_keys = idle_keys (multi_key registered (map Some args))
 
-    pub refused_keeps : KeptBefore → now ≡ before → KeptNow
+    refused_keeps : KeptBefore → now ≡ before → KeptNow
     refused_keeps kept idle = said_keeps outcome grew kept
         (subst (λ (T : Type 0). T) (sym (idle_is (took (length old)) (multi_key registered (map Some args)) before)) (sym (now_keys outcome grew) ∙ idle))
 
@@ -92,8 +92,43 @@ module _ {C : Type 0} (registered : Registrations) (step : Step C) (took : ℕ �
         (λ effect. inr (keys ∙ ap (λ b. cond b (after_effect step (multi_key registered (map Some args)) before) before) effect ∙ ap (λ (m : Option MultiKey). after_effect step m before) is))
         (λ none. inl (keys ∙ ap (λ b. cond b (after_effect step (multi_key registered (map Some args)) before) before) none))
 
-    pub lost_keeps : KeptBefore → KeptNow
+    lost_keeps : KeptBefore → KeptNow
     lost_keeps kept = said_keeps (loss error) grew kept tt
 
-    pub lost_keys : IfSome (multi_key registered (map Some args)) (λ command. KeptNow → (now ≡ before) ⊎ (now ≡ keyspace_after step command before))
+    lost_keys : IfSome (multi_key registered (map Some args)) (λ command. KeptNow → (now ≡ before) ⊎ (now ≡ keyspace_after step command before))
     lost_keys = loss_keys (multi_key registered (map Some args)) refl
+
+  -- what a send without a reply says of the keyspaces, by how it ended
+  unsaid_kept : (error : SendError) → IsUnsaid old new node args error → KeptNow → KeptBefore
+  unsaid_kept (Refused error) grew = said_kept (refusal error) grew
+  unsaid_kept (Redirected redirect) grew = said_kept (redirection redirect) grew
+  unsaid_kept (Lost error) grew = said_kept (loss error) grew
+  unsaid_kept Memory same = subst (λ (l : List SaidCommand). AreCommandsKept registered step took l initial) same
+
+  pub unsaid_keeps : (error : SendError) → IsUnsaid old new node args error → KeptBefore → IsIdleIfRefused before now error → KeptNow
+  unsaid_keeps (Refused error) grew = refused_keeps (refusal error) grew (λ took found keyspace. refl)
+  unsaid_keeps (Redirected redirect) grew = refused_keeps (redirection redirect) grew (λ took found keyspace. refl)
+  unsaid_keeps (Lost error) grew = λ kept idle. lost_keeps error grew kept
+  unsaid_keeps Memory same = λ kept idle. subst (λ (l : List SaidCommand). AreCommandsKept registered step took l initial) (sym same) kept
+
+  unsent_keys : new ≡ old → (found : Option MultiKey) → IfSome found (λ command. KeptNow → now ≡ before)
+  unsent_keys same None = tt
+  unsent_keys same (Some command) = λ kept. ap (λ (l : List SaidCommand). replay_commands registered step took l initial) same
+
+  pub unsaid_keys : (error : SendError) → IsUnsaid old new node args error
+      → IfSome (multi_key registered (map Some args)) (λ command. KeptNow → IsLeft step command before now (ending_of error))
+  unsaid_keys (Refused error) grew = refused_keys (refusal error) grew (λ took found keyspace. refl)
+  unsaid_keys (Redirected redirect) grew = refused_keys (redirection redirect) grew (λ took found keyspace. refl)
+  unsaid_keys (Lost error) grew = lost_keys error grew
+  unsaid_keys Memory same = unsent_keys same (multi_key registered (map Some args))
+
+  -- and a send, whatever came back
+  pub sent_keys : (r : Result Value SendError) → IfOk r (λ value. new ≡ old ++ said node args (answer (view value)) ∷ [])
+      → OnOk r (IfSome (multi_key registered (map Some args)) (λ command. KeptNow → now ≡ keyspace_after step command before))
+  sent_keys (Ok value) grew = answered_keys (view value) grew
+  sent_keys (Err error) none = tt
+
+  pub sent_kept : (r : Result Value SendError) → IfOk r (λ value. new ≡ old ++ said node args (answer (view value)) ∷ [])
+      → IfErr r (λ error. IsUnsaid old new node args error) → KeptNow → KeptBefore
+  sent_kept (Ok value) grew none = said_kept (answer (view value)) grew
+  sent_kept (Err error) none unsaid = unsaid_kept error unsaid

@@ -1,9 +1,11 @@
 -- One send more.
-use Rattle.std.proofs.Common.{◌≡◌, ℕ, suc, List, [], ◌∷◌, ◌++◌, length, map, arith, refl, sym, ap, ◌∙◌, subst, append_assoc}
+use Rattle.std.proofs.Common.{◌≡◌, ℕ, suc, Result, Ok, Err, IfErr, OnErr, List, [], ◌∷◌, ◌++◌, length, map, arith, refl, sym, ap, ◌∙◌, subst, append_assoc}
 use Rattle.std.proofs.lemmas.Grind.{common_steps}
 use Rattle.std.proofs.lemmas.List.{append-nil}
 use Rattle.cluster_slots.specs.Address.{Address}
-use Rattle.wire.specs.Said.{Said, SendOutcome, said, reply_in, replies_in}
+use Rattle.redis_cluster.specs.declared.nodes.SendError.{SendError}
+use Rattle.redis_cluster.specs.declared.nodes.SendError.TheVariants.{Refused, Redirected, Lost, Memory}
+use Rattle.wire.specs.Said.{Said, SendOutcome, said, refusal, redirection, loss, reply_in, replies_in, IsUnsaid}
 use Rattle.wire.specs.Replay.{replay, AreKept}
 
 pub not_empty : {X : Type 0} (x : X) (xs : List X) → x ∷ xs ≡ [] → ⊥
@@ -66,5 +68,18 @@ module _ {S V : Type 0} where
     said_gave replies is = grind (arith, common_steps, replies-append, append-nil)
 
     -- and none more where none came
-    pub said_none : reply_in outcome ≡ [] → (replies : List V) → replies ≡ replies_in old → replies ≡ replies_in new
+    said_none : reply_in outcome ≡ [] → (replies : List V) → replies ≡ replies_in old → replies ≡ replies_in new
     said_none none replies is = sym (append-nil replies) ∙ ap (λ rs. replies ++ rs) (sym none) ∙ said_gave replies is
+
+  unsaid_none : (old new : List (Said S V)) (node : Address) (sent : S) (error : SendError) → IsUnsaid old new node sent error
+      → (replies : List V) → replies ≡ replies_in old → replies ≡ replies_in new
+  unsaid_none old new node sent (Refused error) grew = said_none old new node sent (refusal error) grew refl
+  unsaid_none old new node sent (Redirected redirect) grew = said_none old new node sent (redirection redirect) grew refl
+  unsaid_none old new node sent (Lost error) grew = said_none old new node sent (loss error) grew refl
+  unsaid_none old new node sent Memory same = λ replies is. is ∙ ap replies_in (sym same)
+
+  -- so it is with a send, whatever came back
+  pub sent_none : {T : Type 0} (old new : List (Said S V)) (node : Address) (sent : S) (r : Result T SendError) → IfErr r (λ error. IsUnsaid old new node sent error)
+      → OnErr r ((replies : List V) → replies ≡ replies_in old → replies ≡ replies_in new)
+  sent_none old new node sent (Ok value) none = tt
+  sent_none old new node sent (Err error) unsaid = unsaid_none old new node sent error unsaid

@@ -149,29 +149,8 @@ impl<W: Wire, M: Meaning> Nodes for WireNodes<W, M> {
     }
 
     fn send(&mut self, node: &NodeAddress, cmd: &Cmd) -> Result<Value, SendError> {
-        match self.wire.exchange(node, cmd) {
-            Ok(value) => {
-                self.mark = false;
-                Ok(value)
-            }
-            Err(error) => match error {
-                SendError::Refused(error) => {
-                    self.mark = false;
-                    Err(SendError::Refused(error))
-                }
-                SendError::Redirected(redirect) => {
-                    self.mark = false;
-                    Err(SendError::Redirected(redirect))
-                }
-                SendError::Lost(error) => {
-                    self.mark = false;
-                    Err(SendError::Lost(error))
-                }
-                SendError::Memory => {
-                    self.mark = true;
-                    Err(SendError::Memory)
-                }
-            },
-        }
+        let outcome = self.wire.exchange(node, cmd);
+        self.mark = matches!(outcome, Err(SendError::Memory));
+        outcome
     }
 }
