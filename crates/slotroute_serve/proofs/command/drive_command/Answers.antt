@@ -1,4 +1,5 @@
-use Rattle.std.proofs.Common.{◌∙◌, refl, ap, Some, map, subst}
+use Rattle.std.proofs.Common.{◌∙◌, refl, ap, Some, map, subst, arith}
+use Rattle.std.proofs.lemmas.Grind.{common_steps}
 use Rattle.memory_nodes.specs.Nodes.{registered_in, keyspace_in, trace_in, mark_in, MayRefuse}
 use Rattle.redis_cluster.specs.Driven.{Request, request}
 use Rattle.redis_cluster.specs.State.{state}
@@ -92,3 +93,18 @@ returns-clause-unsent g c =
     let is_fault = c.in-Err.ensures.fault (asked registered) ready.0 ready.1 refl refl tt in
     rw c.command_fault.ensures
     (unsent (IsPlanNode plan) names registered words entries order old new (MayRefuse c.args.nodes.now) c.requires.willing fault answered is_fault)
+
+pub drive_plan-requires-clause-command : goal.drive_plan-requires-clause-command
+drive_plan-requires-clause-command c = grind (arith, common_steps)
+
+pub drive_plan-requires-clause-untold : goal.drive_plan-requires-clause-untold
+drive_plan-requires-clause-untold c = grind (arith, common_steps)
+
+pub returns-clause-registered : goal.returns-clause-registered
+returns-clause-registered c = grind (arith, common_steps)
+
+pub returns-in-Ok-clause-registered : goal.returns-in-Ok-clause-registered
+returns-in-Ok-clause-registered c = grind (arith, common_steps)
+
+pub returns-in_err-order-clause-refused : goal.returns-in_err-order-clause-refused
+returns-in_err-order-clause-refused c = grind (arith, common_steps)
