@@ -25,7 +25,7 @@ use Rattle.redis_cluster.specs.Unsplit.{Act, Step, Keyspace, act_of, after, keys
 use Rattle.redis_cluster.proofs.CommandParts.{part_by_command}
 use Rattle.redis_cluster.proofs.Counts.{same_number, times_here, times_there}
 use Rattle.redis_cluster.proofs.Fold.{after_is, cell_after, keeps, skips}
-use Rattle.redis_cluster.proofs.Joined.{outcome_is, replies_by as replies_of_parts}
+use Rattle.redis_cluster.proofs.Joined.{outcome_is, replies_of_parts}
 use Rattle.redis_cluster.proofs.Made.{made_of_command}
 use Rattle.redis_cluster.proofs.Parts.{length-results, results-part}
 use Rattle.redis_cluster.proofs.SplitParts.{part_means, slots_have_keys}

@@ -38,44 +38,44 @@ use Rattle.redis_cluster.proofs.Placed.{map-items_of_slot}
 use Rattle.redis_cluster.proofs.Places.{items_of_slot_is, numbers_of_slot}
 
 -- what replies to the parts of a split make
-abbrev pub Outcome : Split → List Reply → ReplyForm → Result Reply ErrorKind → Type 0
-Outcome split replies form outcome = IsOutcome (tuples_in_split split) (slots_of split.routes) replies form outcome
+abbrev pub IsOutcomeOf : Split → List Reply → ReplyForm → Result Reply ErrorKind → Type 0
+IsOutcomeOf split replies form outcome = IsOutcome (tuples_in_split split) (slots_of split.routes) replies form outcome
 
 module _ (split : Split) (to : IsSplitTo split) (replies : List Reply) (each : length replies ≡ length split.routes) where
   by_misfit : (kind : Option ErrorKind) → first_misfit replies (map (λ slot. length (tuples_of_slot slot (tuples_in_split split))) (slots_of split.routes)) ≡ kind
-      → (outcome : Result Reply ErrorKind) → sorted_arrays split.pattern replies (map (λ r. r.1) split.routes) ≡ outcome → Outcome split replies list outcome
+      → (outcome : Result Reply ErrorKind) → sorted_arrays split.pattern replies (map (λ r. r.1) split.routes) ≡ outcome → IsOutcomeOf split replies list outcome
   by_misfit (Some kind) first outcome is =
       let refused : sorted_arrays split.pattern replies (map (λ r. r.1) split.routes) ≡ Err kind =
       sorted_is (tuples_in_split split) split.pattern split.routes replies to.placed each
       ∙ ap (λ k. array_or_refusal k (option_and_then (by_places (flatten (map (λ slot. numbers_of_slot slot (tuples_in_split split)) (slots_of split.routes)))) (all_items replies))) first in
-      subst (Outcome split replies list) (sym refused ∙ is) first
+      subst (IsOutcomeOf split replies list) (sym refused ∙ is) first
   by_misfit None first outcome is =
       let all = merged (tuples_in_split split) (slots_of split.routes) replies to.named to.apart (each ∙ sym (length-map split.routes (λ r. r.0.slot))) first in
       let whole : sorted_arrays split.pattern replies (map (λ r. r.1) split.routes) ≡ Ok (array (replies_of all.0)) =
       arrays_sorted (tuples_in_split split) all.0 all.1.each split.pattern split.routes replies to.named to.placed each all.1.of_slots in
-      subst (Outcome split replies list) (sym whole ∙ is) (all.0, all.1, refl)
+      subst (IsOutcomeOf split replies list) (sym whole ∙ is) (all.0, all.1, refl)
 
   -- arrays are put in order by the lists of the routes
   arrays_make : (pattern : MultiSlotArgPattern) (routes : List (SlotRoute × Vec ℕ Global)) (outcome : Result Reply ErrorKind) → pattern ≡ split.pattern → route_lists routes ≡ split.routes
-      → sorted_arrays pattern replies (map (λ route. route.1.items) routes) ≡ outcome → Outcome split replies list outcome
+      → sorted_arrays pattern replies (map (λ route. route.1.items) routes) ≡ outcome → IsOutcomeOf split replies list outcome
   arrays_make pattern routes outcome same listed is = grind (arith, map-map, by_misfit)
 
   -- so it is for each form of the reply that arrays make
   pub arrays_are : (form : ReplyForm) (pattern : MultiSlotArgPattern) (routes : List (SlotRoute × Vec ℕ Global)) (outcome : Result Reply ErrorKind) → form_by_policy split.policy ≡ Some form → split.policy ≡ CombineArrays
-      → pattern ≡ split.pattern → route_lists routes ≡ split.routes → sorted_arrays pattern replies (map (λ route. route.1.items) routes) ≡ outcome → Outcome split replies form outcome
+      → pattern ≡ split.pattern → route_lists routes ≡ split.routes → sorted_arrays pattern replies (map (λ route. route.1.items) routes) ≡ outcome → IsOutcomeOf split replies form outcome
   arrays_are form pattern routes outcome form_is policy same listed is = grind (arith, arrays_make)
 
 -- numbers make one
 pub number_is : (split : Split) (form : ReplyForm) (op : AggregateOp) (replies : List Reply) (found : Option Reply) → form_by_policy split.policy ≡ Some form → split.policy ≡ Aggregate op → aggregate_of op replies ≡ found
-    → Outcome split replies form (ok_or found UnexpectedReturnType)
+    → IsOutcomeOf split replies form (ok_or found UnexpectedReturnType)
 number_is split form Min replies found form_is policy is = absurd (let e : form_by_policy split.policy ≡ None = ap form_by_policy policy in cc)
 number_is split form Sum replies found form_is policy is = grind (arith, common_steps)
 
 -- by any other policy it is the first reply
 pub first_is : (split : Split) (form : ReplyForm) (policy : ResponsePolicy) (replies : List Reply) (first : Reply) → form_by_policy split.policy ≡ Some form → split.policy ≡ policy
-    → (policy ≡ CombineArrays → ⊥) → ((op : AggregateOp) → policy ≡ Aggregate op → ⊥) → Some first ≡ slice_get replies 0 → Outcome split replies form (Ok first)
+    → (policy ≡ CombineArrays → ⊥) → ((op : AggregateOp) → policy ≡ Aggregate op → ⊥) → Some first ≡ slice_get replies 0 → IsOutcomeOf split replies form (Ok first)
 first_is split form policy replies first form_is is not_arrays not_numbers at =
-    subst (λ f. Outcome split replies f (Ok first)) (other policy not_arrays not_numbers (ap form_by_policy (sym is) ∙ form_is)) (okay_is replies at)
+    subst (λ f. IsOutcomeOf split replies f (Ok first)) (other policy not_arrays not_numbers (ap form_by_policy (sym is) ∙ form_is)) (okay_is replies at)
   where
     other : (p : ResponsePolicy) → (p ≡ CombineArrays → ⊥) → ((op : AggregateOp) → p ≡ Aggregate op → ⊥) → form_by_policy p ≡ Some form → okay ≡ form
     other OneSucceeded a n e = absurd (cc e)
@@ -87,13 +87,13 @@ first_is split form policy replies first form_is is not_arrays not_numbers at =
     other Special a n e = absurd (cc e)
     other CombineMaps a n e = absurd (cc e)
 
-    okay_is : (replies : List Reply) → Some first ≡ slice_get replies 0 → Outcome split replies okay (Ok first)
+    okay_is : (replies : List Reply) → Some first ≡ slice_get replies 0 → IsOutcomeOf split replies okay (Ok first)
     okay_is [] e = absurd (cc e)
     okay_is (r ∷ replies) e = cc e
 
 -- the replies to the parts of these slots, if all tuples have these results
-abbrev pub replies_by : ReplyForm → List KeyTuple → List TupleResult → List ℕ → List Reply
-replies_by form ts results slots = map (λ slot. reply_by form (items_of_slot slot ts results)) slots
+abbrev pub replies_of_parts : ReplyForm → List KeyTuple → List TupleResult → List ℕ → List Reply
+replies_of_parts form ts results slots = map (λ slot. reply_by form (items_of_slot slot ts results)) slots
 
 -- the reply of the unsplit command, by each form
 module _ (slots : List ℕ) (ts : List KeyTuple) (share : ShareOut slots ts) (results : List TupleResult) (each : length results ≡ length ts) where
@@ -103,7 +103,7 @@ module _ (slots : List ℕ) (ts : List KeyTuple) (share : ShareOut slots ts) (re
   long : length values ≡ length ts
   long = length-map results (λ r. r.value) ∙ each
 
-  arrays : (slots : List ℕ) → AllZip (λ slot reply. array_of reply ≡ Some (items_of_slot slot ts values)) slots (replies_by list ts results slots)
+  arrays : (slots : List ℕ) → AllZip (λ slot reply. array_of reply ≡ Some (items_of_slot slot ts values)) slots (replies_of_parts list ts results slots)
   arrays [] = tt
   arrays (slot ∷ slots) = grind (arith, items_in-replies_of, map-items_of_slot, items_of_slot_is, long, arrays slots)
 
@@ -111,15 +111,15 @@ module _ (slots : List ℕ) (ts : List KeyTuple) (share : ShareOut slots ts) (re
   first_okay [] outcome some is = absurd (omega arith)
   first_okay (slot ∷ slots) outcome some is = cc is
 
-  by_form : (form : ReplyForm) (outcome : Result Reply ErrorKind) → IsOutcome ts slots (replies_by form ts results slots) form outcome → outcome ≡ Ok (reply_by form results)
+  by_form : (form : ReplyForm) (outcome : Result Reply ErrorKind) → IsOutcome ts slots (replies_of_parts form ts results slots) form outcome → outcome ≡ Ok (reply_by form results)
   by_form list (Ok value) made =
-      ap Ok made.2 ∙ ap (λ vs. Ok (array (replies_of vs))) (merged_once ts slots (replies_by list ts results slots) made.0 values share.named made.1 (record { each = long; of_slots = arrays slots }))
-  by_form list (Err kind) refused = absurd (none_apart kind (sym (no_misfit ts values long slots (replies_by list ts results slots) (arrays slots)) ∙ refused))
+      ap Ok made.2 ∙ ap (λ vs. Ok (array (replies_of vs))) (merged_once ts slots (replies_of_parts list ts results slots) made.0 values share.named made.1 (record { each = long; of_slots = arrays slots }))
+  by_form list (Err kind) refused = absurd (none_apart kind (sym (no_misfit ts values long slots (replies_of_parts list ts results slots) (arrays slots)) ∙ refused))
   by_form count outcome made = sym made ∙ ap (λ o. ok_or o UnexpectedReturnType) (counts_joined slots ts results each share.few share.named)
   by_form okay outcome made = first_okay slots outcome share.some made
 
   -- What is made of the replies to the parts is the reply to the unsplit command.
-  pub outcome_is : (form : ReplyForm) (replies : List Reply) (outcome : Result Reply ErrorKind) → replies ≡ replies_by form ts results slots → IsOutcome ts slots replies form outcome → outcome ≡ Ok (reply_by form results)
+  pub outcome_is : (form : ReplyForm) (replies : List Reply) (outcome : Result Reply ErrorKind) → replies ≡ replies_of_parts form ts results slots → IsOutcome ts slots replies form outcome → outcome ≡ Ok (reply_by form results)
   outcome_is form replies outcome are made = by_form form outcome (subst (λ rs. IsOutcome ts slots rs form outcome) are made)
 
 -- So it is of a split.
@@ -135,7 +135,7 @@ arrays_make_lists split form is policy = let e : form_by_policy split.policy ≡
 pub memory_makes_lists : (split : Split) (form : ReplyForm) (replies : List Reply) → form_by_policy split.policy ≡ Some form → IsMadeOfParts split replies (Err OutOfMemory) → form ≡ list
 memory_makes_lists split form replies is made =
     let same : made.form ≡ form = let e = made.form_is in cc (e, is) in
-    of_form form (subst (λ f. Outcome split replies f (Err OutOfMemory)) same made.outcome_is)
+    of_form form (subst (λ f. IsOutcomeOf split replies f (Err OutOfMemory)) same made.outcome_is)
   where
     no_sum : (found : Option Reply) → ok_or found UnexpectedReturnType ≡ Err OutOfMemory → ⊥
     no_sum None failed = let e : UnexpectedReturnType ≡ OutOfMemory = cc failed in cc e
@@ -145,7 +145,7 @@ memory_makes_lists split form replies is made =
     no_first [] failed = cc failed
     no_first (r ∷ replies) failed = cc failed
 
-    of_form : (form : ReplyForm) → Outcome split replies form (Err OutOfMemory) → form ≡ list
+    of_form : (form : ReplyForm) → IsOutcomeOf split replies form (Err OutOfMemory) → form ≡ list
     of_form list failed = refl
     of_form count failed = absurd (no_sum (option_map int (sum_of replies)) failed)
     of_form okay failed = absurd (no_first replies failed)

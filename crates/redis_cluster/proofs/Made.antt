@@ -13,7 +13,7 @@ use Rattle.redis_cluster.specs.MultiKey.{MultiKey, ReplyForm, list, form_by_poli
 use Rattle.redis_cluster.specs.Joined.{IsOutcome}
 use Rattle.redis_cluster.specs.Plan.{ArePartsAnswered, IsMadeOfParts, tuples_in_split}
 use Rattle.redis_cluster.specs.Unsplit.{TupleResult, reply_by}
-use Rattle.redis_cluster.proofs.Joined.{Outcome, arrays_make_lists, outcome_is_unsplit}
+use Rattle.redis_cluster.proofs.Joined.{IsOutcomeOf, arrays_make_lists, outcome_is_unsplit}
 use Rattle.redis_cluster.proofs.SplitParts.{form_of_joining}
 use Rattle.redis_cluster.proofs.SplitTuples.{slots_of_split}
 use Rattle.redis_cluster.specs.SlotItems.{items_of_slot}
@@ -27,8 +27,8 @@ IsMadeOr split replies result = MatchResult result
 -- what is said for each form is said of the split's own
 pub made_of_parts : (split : Split) → IsSplit split → (replies : List Value) → length replies ≡ length split.routes → (result : Result Value ErrorParts)
     → ((form : ReplyForm) → form_by_policy split.policy ≡ Some form → MatchResult result
-    (λ value. Outcome split (map view replies) form (Ok (view value)))
-    (λ error. ((error ≡ out_of_memory) × (split.policy ≡ CombineArrays)) ⊎ Outcome split (map view replies) form (Err error.kind)))
+    (λ value. IsOutcomeOf split (map view replies) form (Ok (view value)))
+    (λ error. ((error ≡ out_of_memory) × (split.policy ≡ CombineArrays)) ⊎ IsOutcomeOf split (map view replies) form (Err error.kind)))
     → IsMadeOr split (map view replies) result
 made_of_parts split held replies many result each =
     let own = form_of_joining split.policy held.policy in

@@ -5,14 +5,14 @@ use Rattle.std.proofs.lemmas.List.Folds.{list_any-append}
 use Rattle.std.proofs.lemmas.Slice.Eq.{bytes_eq-Decides}
 use Rattle.std.proofs.lemmas.Grind.{common_steps}
 use Rattle.redis_routing.specs.ReadOnly.{is_among}
-use Rattle.redis_routing.specs.Inner.NameSpots.{Tree, spot_of, names_of, names_in, is_in, AreAtTheirSpots}
+use Rattle.redis_routing.specs.Inner.NameSpots.{Tree, spot_of, names_in_tree, names_in_trees, is_in, AreAtTheirSpots}
 use Rattle.resp_core.proofs.Cases.{by_test}
 
 -- an empty tree more changes nothing
 
-pub names_in-push : (trees : List Tree) (tree : Tree) → tree.keys ≡ [] → names_in (trees ++ tree ∷ []) ≡ names_in trees
-names_in-push [] tree empty = rw empty refl
-names_in-push (t ∷ trees) tree empty = ap (λ names. names_of t ++ names) (names_in-push trees tree empty)
+pub names_in_trees-push : (trees : List Tree) (tree : Tree) → tree.keys ≡ [] → names_in_trees (trees ++ tree ∷ []) ≡ names_in_trees trees
+names_in_trees-push [] tree empty = rw empty refl
+names_in_trees-push (t ∷ trees) tree empty = ap (λ names. names_in_tree t ++ names) (names_in_trees-push trees tree empty)
 
 pub is_in-push : (q : List ℕ) (trees : List Tree) (tree : Tree) (at : ℕ) → tree.keys ≡ [] → is_in q (slice_get (trees ++ tree ∷ []) at) ≡ is_in q (slice_get trees at)
 is_in-push q [] tree zero empty = rw empty refl
@@ -24,9 +24,9 @@ is_in-push q (t ∷ trees) tree (suc at) empty = is_in-push q trees tree at empt
 
 -- the other tree has the names of the first and one more
 abbrev pub IsOneMore : List ℕ → Tree → Tree → Type 0
-IsOneMore name tree after = (q : List ℕ) → is_among (names_of after) q ≡ (bytes_eq q name || is_among (names_of tree) q)
+IsOneMore name tree after = (q : List ℕ) → is_among (names_in_tree after) q ≡ (bytes_eq q name || is_among (names_in_tree tree) q)
 
-pub among-set : (name : List ℕ) (trees : List Tree) (at : ℕ) (tree after : Tree) → slice_get trees at ≡ Some tree → IsOneMore name tree after → (q : List ℕ) → is_among (names_in (set trees at after)) q ≡ (bytes_eq q name || is_among (names_in trees) q)
+pub among-set : (name : List ℕ) (trees : List Tree) (at : ℕ) (tree after : Tree) → slice_get trees at ≡ Some tree → IsOneMore name tree after → (q : List ℕ) → is_among (names_in_trees (set trees at after)) q ≡ (bytes_eq q name || is_among (names_in_trees trees) q)
 among-set name [] at tree after there more q = cc
 among-set name (t ∷ trees) zero tree after there more q = grind (arith, common_steps, list_any-append, more q)
 among-set name (t ∷ trees) (suc at) tree after there more q = grind (arith, common_steps, among-set name trees)
@@ -48,7 +48,7 @@ set_same [] at tree after there keys = refl
 set_same (t ∷ trees) zero tree after there keys = let same : after ≡ tree = λ i. record { keys = keys i } in cc
 set_same (t ∷ trees) (suc at) tree after there keys = ap (λ rest. t ∷ rest) (set_same trees at tree after there keys)
 
-pub at_their_spots-reached : (trees reached : List Tree) → AreAtTheirSpots trees → names_in reached ≡ names_in trees → ((q : List ℕ) (at : ℕ) → is_in q (slice_get reached at) ≡ is_in q (slice_get trees at)) → AreAtTheirSpots reached
+pub at_their_spots-reached : (trees reached : List Tree) → AreAtTheirSpots trees → names_in_trees reached ≡ names_in_trees trees → ((q : List ℕ) (at : ℕ) → is_in q (slice_get reached at) ≡ is_in q (slice_get trees at)) → AreAtTheirSpots reached
 at_their_spots-reached trees reached found names spots = record { each = λ q. ap (λ n. is_among n q) names ∙ found.each q ∙ sym (spots q (spot_of q)) }
 
 pub at_their_spots-set : (name : List ℕ) (trees : List Tree) (at : ℕ) (tree after : Tree) → AreAtTheirSpots trees → at ≡ spot_of name → slice_get trees at ≡ Some tree → IsOneMore name tree after → AreAtTheirSpots (set trees at after)

@@ -20,8 +20,8 @@ use Rattle.std.proofs.lemmas.Bool.{and_from}
 abbrev pub Row : Type 0
 Row = Vec ℕ Global × Registered
 
-abbrev pub row_of : Row → List ℕ × Registered
-row_of row = (row.0.items, row.1)
+abbrev pub registration_of : Row → List ℕ × Registered
+registration_of row = (row.0.items, row.1)
 
 abbrev pub may_stand : Row → Bool
 may_stand row = is_registrable row.0.items row.1.1
@@ -30,12 +30,12 @@ bytes_eq-swap : (xs ys : List ℕ) → bytes_eq xs ys ≡ bytes_eq ys xs
 bytes_eq-swap xs ys = grind (arith, by_test, bytes_eq-Decides)
 
 -- a look-up by the order of bytes is one by `==`
-pub found_row : (q : List ℕ) (rows : List Row) → tree.lookup (at q) rows ≡ lookup_name (map row_of rows) q
+pub found_row : (q : List ℕ) (rows : List Row) → tree.lookup (at q) rows ≡ lookup_name (map registration_of rows) q
 found_row q [] = refl
 found_row q (row ∷ rows) = grind (arith, at, is_eq-slice_cmp, bytes_eq-swap, found_row q rows)
 
 -- what is found could be registered
-pub found_registrable : (q : List ℕ) (rows : List Row) → list_all may_stand rows ≡ true → IfSome (lookup_name (map row_of rows) q) (λ r. is_registrable q r.1 ≡ true)
+pub found_registrable : (q : List ℕ) (rows : List Row) → list_all may_stand rows ≡ true → IfSome (lookup_name (map registration_of rows) q) (λ r. is_registrable q r.1 ≡ true)
 found_registrable q [] h = tt
 found_registrable q (row ∷ rows) h = grind (arith, common_steps, by_test, bytes_eq-Decides, and_first, and_second, found_registrable q rows (and_second (may_stand row) (list_all may_stand rows) h))
 
@@ -58,13 +58,13 @@ apart_keys k x q unlike equal = ap (bytes_eq k) (sym ((bytes_eq-Decides x q).0 e
 
 -- the look-ups after a row is put in
 pub lookup-insert_entry : (q : List ℕ) (k : Vec ℕ Global) (r : Registered) (rows : List Row)
-    → lookup_name (map row_of (insert_entry by_items rows k r)) q ≡ cond (bytes_eq k.items q) (Some r) (lookup_name (map row_of rows) q)
+    → lookup_name (map registration_of (insert_entry by_items rows k r)) q ≡ cond (bytes_eq k.items q) (Some r) (lookup_name (map registration_of rows) q)
 lookup-insert_entry q k r [] = refl
 lookup-insert_entry q k r (row ∷ rows) = by_order (by_items k row.0)
     (λ less. rw less refl)
-    (λ equal. rw equal (rw (same_key k row.0 equal) (cond_twice (bytes_eq row.0.items q) (Some r) (Some row.1) (lookup_name (map row_of rows) q))))
+    (λ equal. rw equal (rw (same_key k row.0 equal) (cond_twice (bytes_eq row.0.items q) (Some r) (Some row.1) (lookup_name (map registration_of rows) q))))
     (λ greater. rw greater (ap (cond (bytes_eq row.0.items q) (Some row.1)) (lookup-insert_entry q k r rows)
-    ∙ cond_apart (bytes_eq row.0.items q) (bytes_eq k.items q) (Some row.1) (Some r) (lookup_name (map row_of rows) q) (apart_keys k.items row.0.items q (other_key k row.0 greater))))
+    ∙ cond_apart (bytes_eq row.0.items q) (bytes_eq k.items q) (Some row.1) (Some r) (lookup_name (map registration_of rows) q) (apart_keys k.items row.0.items q (other_key k row.0 greater))))
 
 -- what may be registered stands among such
 pub registrable-insert_entry : (k : Vec ℕ Global) (r : Registered) (rows : List Row) → is_registrable k.items r.1 ≡ true → list_all may_stand rows ≡ true → list_all may_stand (insert_entry by_items rows k r) ≡ true
@@ -72,7 +72,7 @@ registrable-insert_entry k r [] new old = and_from (is_registrable k.items r.1) 
 registrable-insert_entry k r (row ∷ rows) new old = grind (arith, common_steps, by_order, by_items, and_from, same_key, and_second, and_first, registrable-insert_entry k r rows new (and_second (may_stand row) (list_all may_stand rows) old))
 
 -- a name without a row adds one
-pub one_more : (before : Option Registered) (rows after : List Row) → before ≡ None → length after ≡ length rows + (if is_some before then 0 else 1) → length (map row_of after) ≡ length (map row_of rows) + 1
+pub one_more : (before : Option Registered) (rows after : List Row) → before ≡ None → length after ≡ length rows + (if is_some before then 0 else 1) → length (map registration_of after) ≡ length (map registration_of rows) + 1
 one_more before rows after none more = grind (arith, common_steps)
 
 pub none_from : {X : Type 0} (o : Option X) → is_some o ≡ false → o ≡ None
@@ -87,14 +87,14 @@ may_register name policy good free able = rw (good, none_from (base_routing name
 abbrev pub IsRowClone : Row → Row → Type 0
 IsRowClone row copy = (AllZip (λ x y. y ≡ x) row.0.items copy.0.items × (copy.0.len ≡ row.0.len)) × ((copy.1.0 ≡ row.1.0) × (copy.1.1 ≡ row.1.1))
 
-row_cloned : (row copy : Row) → IsRowClone row copy → row_of copy ≡ row_of row
+row_cloned : (row copy : Row) → IsRowClone row copy → registration_of copy ≡ registration_of row
 row_cloned row copy cloned =
     let name : copy.0.items ≡ row.0.items = each_same row.0.items copy.0.items cloned.0.0 in
     let pattern = cloned.1.0 in
     let policy = cloned.1.1 in
     λ i. (name i, (pattern i, policy i))
 
-pub cloned_rows : (rows copies : List Row) → AllZip IsRowClone rows copies → map row_of copies ≡ map row_of rows
+pub cloned_rows : (rows copies : List Row) → AllZip IsRowClone rows copies → map registration_of copies ≡ map registration_of rows
 cloned_rows [] [] cloned = refl
 cloned_rows [] (copy ∷ copies) cloned = absurd cloned
 cloned_rows (row ∷ rows) [] cloned = absurd cloned

@@ -14,7 +14,7 @@ use Rattle.redis_routing.specs.declared.policy.ResponsePolicy.{ResponsePolicy}
 use Rattle.redis_routing.specs.contracts.policy.ResponsePolicyPartialEq.TheImpl as policy_eq
 use Rattle.redis_routing.specs.Lookup.{lookup_name}
 use Rattle.redis_routing.proofs.NameSets.{by_items}
-use Rattle.redis_routing.proofs.Registrations.{Row, row_of, found_row, same_key}
+use Rattle.redis_routing.proofs.Registrations.{Row, registration_of, found_row, same_key}
 
 -- `==` of two patterns compares their places
 pub patterns_compare : (a b : MultiSlotArgPattern) → (pattern_eq.ghosts).eq a b ≡ nat_eq (pattern_place a) (pattern_place b)
@@ -50,7 +50,7 @@ pub same_registrations-Decides : (a b : Registrations) → Decides (same_registr
 same_registrations-Decides a b = slice_eq-Decides row-Decides a b (same_registrations a b) refl
 
 -- rows that are compared as what is seen of them
-pub rows_compare : {E : Row → Row → Bool} → ((a b : Row) → E a b ≡ same_row (row_of a) (row_of b)) → (xs ys : List Row) → pointwise E xs ys ≡ same_registrations (map row_of xs) (map row_of ys)
+pub rows_compare : {E : Row → Row → Bool} → ((a b : Row) → E a b ≡ same_row (registration_of a) (registration_of b)) → (xs ys : List Row) → pointwise E xs ys ≡ same_registrations (map registration_of xs) (map registration_of ys)
 rows_compare each [] [] = refl
 rows_compare each [] (y ∷ ys) = refl
 rows_compare each (x ∷ xs) [] = refl
@@ -58,12 +58,12 @@ rows_compare each (x ∷ xs) (y ∷ ys) = λ i. each x y i && rows_compare each 
 
 -- rows that look up each name alike are one, since both ascend by their names
 pub same_lookups : (m n : BTreeMap (Vec ℕ Global) Registered) → IsOrdered by_items m → IsOrdered by_items n
-    → ((name : List ℕ) → lookup_name (map row_of m.entries) name ≡ lookup_name (map row_of n.entries) name) → map row_of m.entries ≡ map row_of n.entries
+    → ((name : List ℕ) → lookup_name (map registration_of m.entries) name ≡ lookup_name (map registration_of n.entries) name) → map registration_of m.entries ≡ map registration_of n.entries
 same_lookups m n s t alike =
     btree_map_read_from_get (on_texts (λ k. k.items)) m n s t
     (λ q. found_row q.items m.entries ∙ alike q.items ∙ sym (found_row q.items n.entries))
     (λ k. k.items) same_key
 
 -- the names, the patterns and the policies of two rows
-pub row_compares : (a b : Row) → (pointwise nat_eq a.0.items b.0.items && ((pattern_eq.ghosts).eq a.1.0 b.1.0 && (policy_eq.ghosts).eq a.1.1 b.1.1)) ≡ same_row (row_of a) (row_of b)
+pub row_compares : (a b : Row) → (pointwise nat_eq a.0.items b.0.items && ((pattern_eq.ghosts).eq a.1.0 b.1.0 && (policy_eq.ghosts).eq a.1.1 b.1.1)) ≡ same_row (registration_of a) (registration_of b)
 row_compares a b = λ i. pointwise nat_eq a.0.items b.0.items && (patterns_compare a.1.0 b.1.0 i && policies_compare a.1.1 b.1.1 i)

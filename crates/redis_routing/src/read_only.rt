@@ -2,7 +2,7 @@ ghost use Rattle.std.specs.Prelude.{◌≡◌, ◌<◌, ℕ, List, [], length, s
 ghost use Rattle.std.specs.Str.{bytes_eq};
 ghost use Rattle.redis_routing.specs.ReadOnly.{is_among};
 ghost use Rattle.redis_routing.specs.Upper.{upper};
-ghost use Rattle.redis_routing.specs.Inner.NameSpots.{spot_of, names_in, is_in};
+ghost use Rattle.redis_routing.specs.Inner.NameSpots.{spot_of, names_in_trees, is_in};
 
 use super::lookup::name_hash;
 use super::upper_case::to_upper_case;
@@ -27,11 +27,11 @@ pub struct ReadOnlyNames {
 
 impl Model for ReadOnlyNames {
     ghost use Rattle.std.specs.Prelude.{ℕ, List};
-    ghost use Rattle.redis_routing.specs.Inner.NameSpots.{names_in, AreAtTheirSpots};
+    ghost use Rattle.redis_routing.specs.Inner.NameSpots.{names_in_trees, AreAtTheirSpots};
 
     ghost Value = { List (List ℕ) };
 
-    ghost view = { λ set. names_in set.trees.items };
+    ghost view = { λ set. names_in_trees set.trees.items };
 
     ghost invariant = { λ set. AreAtTheirSpots set.trees.items };
 }
@@ -84,7 +84,7 @@ fn is_at_its_spot(trees: &[BTreeSet<Vec<u8>>], name: &[u8]) -> bool
 /// Adds empty trees, so that there is one at the spot.
 fn reach(trees: &mut Vec<BTreeSet<Vec<u8>>>, alloc: Global, spot: usize) -> Result<(), AllocError>
     ensures reached { OnOk result (spot < length trees.new.items) }
-    ensures names { names_in trees.new.items ≡ names_in trees.old.items }
+    ensures names { names_in_trees trees.new.items ≡ names_in_trees trees.old.items }
     ensures spots { (q : List ℕ) (at : ℕ)
         → is_in q (slice_get trees.new.items at) ≡ is_in q (slice_get trees.old.items at) }
 {

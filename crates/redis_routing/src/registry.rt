@@ -257,11 +257,11 @@ fn is_bad_name(name: &[u8]) -> bool
 fn are_words(first: &[u8], second: &[u8]) -> bool
     ensures { result ≡ (takes_second first.now && is_one_word second.now) }
 {
-    takes_second(first) && is_word(second)
+    takes_second(first) && is_one_word(second)
 }
 
 /// Whether a text is a word: it is not empty and has no space.
-fn is_word(text: &[u8]) -> bool
+fn is_one_word(text: &[u8]) -> bool
     ensures { result ≡ is_one_word text.now }
 {
     !text.is_empty() && !text.contains(&b' ')

@@ -1,5 +1,5 @@
 ghost use Rattle.std.specs.Prelude.{◌≡◌, ℕ, nat_eq, if◌then◌else◌, IfOk};
-ghost use Rattle.redis_routing.specs.Inner.SlotPages.{number_in, number_or, read_pair, spread};
+ghost use Rattle.redis_routing.specs.Inner.SlotPages.{number_on_pages, number_or, read_pair, spread};
 
 use indexmap::IndexMap;
 use std::alloc::{AllocError, Global};
@@ -45,7 +45,7 @@ impl Hasher for PageHasher {
 /// them grows with the square of `count`. So the room grows with it, up to that for all pages.
 /// Picked slots take at most 1.2 times as long as others, as measured.
 pub(crate) fn new_slot_pages(alloc: Global, count: usize) -> Result<SlotPages, AllocError>
-    ensures { IfOk result (λ pages. (slot : ℕ) → number_in pages slot ≡ 0) }
+    ensures { IfOk result (λ pages. (slot : ℕ) → number_on_pages pages slot ≡ 0) }
 {
     let room = count.saturating_mul(count.max(9)) / 9;
     SlotPages::with_capacity_and_hasher(alloc, room.min(ALL_PAGES), BuildHasherDefault::new())
@@ -53,9 +53,9 @@ pub(crate) fn new_slot_pages(alloc: Global, count: usize) -> Result<SlotPages, A
 
 /// The number of a slot. A slot without one gets `next`.
 pub(crate) fn number_of(pages: &mut SlotPages, slot: u16, next: u16) -> Result<u16, AllocError>
-    ensures number { IfOk result (λ number. number ≡ number_or next (number_in pages.old slot)) }
-    ensures numbers { IfOk result (λ number. (other : ℕ) → number_in pages.new other
-        ≡ if nat_eq slot other then number else number_in pages.old other) }
+    ensures number { IfOk result (λ number. number ≡ number_or next (number_on_pages pages.old slot)) }
+    ensures numbers { IfOk result (λ number. (other : ℕ) → number_on_pages pages.new other
+        ≡ if nat_eq slot other then number else number_on_pages pages.old other) }
 {
     let page = pages.entry(slot / 4)?.or_insert([0; 4]);
     let number = &mut page[usize::from(slot % 4)];

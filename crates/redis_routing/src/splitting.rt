@@ -2,7 +2,7 @@ ghost use Rattle.std.specs.Prelude.{◌≡◌, ◌<◌, ◌≤◌, ◌^◌, ◌+
 ghost use Rattle.std.specs.List.{position_or_len, range_with_len};
 ghost use Rattle.cluster_slots.specs.ArgPattern.{tuple_args_count};
 ghost use Rattle.indexmap.specs.IndexSet.{insert_key};
-ghost use Rattle.redis_routing.specs.Inner.SlotPages.{AreNumbered};
+ghost use Rattle.redis_routing.specs.Inner.SlotPages.{ArePagesOf};
 ghost use Rattle.redis_routing.specs.Groups.{lists_of_tuples, with_places, with_shared};
 ghost use Rattle.redis_routing.specs.RoutingInfo.{as_routing, route_lists};
 ghost use Rattle.redis_routing.specs.Routing.{routes_of, routing_of_routes};
@@ -97,10 +97,10 @@ fn add(
 ) -> Result<(), AllocError>
     requires fits { place + width < 2 ^ 64 }
     requires few { length lists.old.items ≤ 16384 }
-    requires slots { AreNumbered pages.old (slots_of (route_lists lists.old.items)) }
+    requires slots { ArePagesOf pages.old (slots_of (route_lists lists.old.items)) }
     ensures lists { OnOk result (route_lists lists.new.items
         ≡ with_places route (range_with_len place width) (route_lists lists.old.items)) }
-    ensures slots { OnOk result (AreNumbered pages.new (slots_of (route_lists lists.new.items))) }
+    ensures slots { OnOk result (ArePagesOf pages.new (slots_of (route_lists lists.new.items))) }
 {
     let index = list_index(lists, pages, route.slot())?;
     if index < lists.len() {
@@ -119,10 +119,10 @@ fn list_index(
     slot: u16,
 ) -> Result<usize, AllocError>
     requires few { length lists.now ≤ 16384 }
-    requires slots { AreNumbered pages.old (slots_of (route_lists lists.now)) }
+    requires slots { ArePagesOf pages.old (slots_of (route_lists lists.now)) }
     ensures index { IfOk result (λ index. index
         ≡ position_or_len (nat_eq slot) (slots_of (route_lists lists.now))) }
-    ensures slots { OnOk result (AreNumbered pages.new
+    ensures slots { OnOk result (ArePagesOf pages.new
         (insert_key nat_eq (slots_of (route_lists lists.now)) slot)) }
 {
     // There are 16384 slots, and a list for each at most.

@@ -87,7 +87,7 @@ impl<'a, 'c, S: Source> NodeSet<'a, 'c, S> {
     pub(crate) fn into_nodes(self) -> Result<Vec<&'a NodeAddress>, AllocError>
         ensures { IfOk result (λ nodes. addresses_behind nodes.items ≡ self.entry) }
     {
-        nodes_of(&self.nodes)
+        nodes_counted(&self.nodes)
     }
 }
 
@@ -114,7 +114,7 @@ fn rehash<'a, 'c, S: Source>(
 }
 
 /// The nodes that are counted.
-fn nodes_of<'a>(
+fn nodes_counted<'a>(
     counted_nodes: &IndexSet<Counted<'a, '_>, NodeHasher>,
 ) -> Result<Vec<&'a NodeAddress>, AllocError>
     ensures { IfOk result (λ nodes. addresses_behind nodes.items

@@ -13,13 +13,13 @@ abbrev pub spread : ℕ → ℕ
 spread n = (n * 1048577) % 2 ^ 64
 
 -- the number at an index of a page, or 0 if there is no page
-abbrev pub number_at : Option (List ℕ) → ℕ → ℕ
-number_at None index = 0
-number_at (Some page) index = get_or page index 0
+abbrev pub number_on_page : Option (List ℕ) → ℕ → ℕ
+number_on_page None index = 0
+number_on_page (Some page) index = get_or page index 0
 
 -- the number of a slot, or 0 if it has none
-abbrev pub number_in : {S : Type 0} → IndexMap ℕ (List ℕ) S → ℕ → ℕ
-number_in pages slot = number_at (get nat_eq pages (slot / 4)) (slot % 4)
+abbrev pub number_on_pages : {S : Type 0} → IndexMap ℕ (List ℕ) S → ℕ → ℕ
+number_on_pages pages slot = number_on_page (get nat_eq pages (slot / 4)) (slot % 4)
 
 -- a number, or the next one in place of 0
 abbrev pub number_or : ℕ → ℕ → ℕ
@@ -29,6 +29,6 @@ number_or next n = if nat_eq n 0 then next else n
 abbrev pub number_among : List ℕ → ℕ → ℕ
 number_among slots slot = if list_any (nat_eq slot) slots then position_or_len (nat_eq slot) slots + 1 else 0
 
--- Each slot has the number that it has in the list.
-abbrev pub AreNumbered : {S : Type 0} → IndexMap ℕ (List ℕ) S → List ℕ → Type 0
-AreNumbered pages slots = (slot : ℕ) → number_in pages slot ≡ number_among slots slot
+-- The pages give each slot the number that it has in the list.
+abbrev pub ArePagesOf : {S : Type 0} → IndexMap ℕ (List ℕ) S → List ℕ → Type 0
+ArePagesOf pages slots = (slot : ℕ) → number_on_pages pages slot ≡ number_among slots slot

@@ -3,7 +3,7 @@ use Rattle.std.proofs.lemmas.List.{length-map}
 use Rattle.std.proofs.lemmas.Result.{MatchResult-weaker}
 use Rattle.resp_core.specs.View.{view}
 use Rattle.resp_core.specs.declared.error.ErrorKind.{ErrorKind}
-use Rattle.redis_cluster.proofs.Joined.{Outcome, arrays_are, first_is, number_is}
+use Rattle.redis_cluster.proofs.Joined.{IsOutcomeOf, arrays_are, first_is, number_is}
 use Rattle.redis_cluster.proofs.SplitTuples.{is_split_to}
 use Rattle.redis_cluster.proofs.plan.join.Goals as goal
 
@@ -27,7 +27,7 @@ returns-in-Aggregate g c =
     record {
       joined = λ form form_is. MatchResult-weaker c.aggregate.result c.aggregate.ensures.answer
           (λ value e. number_is split form c.in-Aggregate.op replies (Some (view value)) form_is policy e)
-          (λ error e. inr (subst (λ (kind : ErrorKind). Outcome split replies form (Err kind)) (sym e.1) (number_is split form c.in-Aggregate.op replies None form_is policy e.0)));
+          (λ error e. inr (subst (λ (kind : ErrorKind). IsOutcomeOf split replies form (Err kind)) (sym e.1) (number_is split form c.in-Aggregate.op replies None form_is policy e.0)));
     }
 
 pub returns-in_default : goal.returns-in_default

@@ -3,7 +3,7 @@ use Rattle.std.specs.List.{position_or_len, range_with_len}
 use Rattle.std.proofs.lemmas.List.{length-map, map_push}
 use Rattle.std.proofs.lemmas.Result.{on_ok_weaker}
 use Rattle.indexmap.specs.IndexSet.{insert_key}
-use Rattle.redis_routing.specs.Inner.SlotPages.{AreNumbered}
+use Rattle.redis_routing.specs.Inner.SlotPages.{ArePagesOf}
 use Rattle.redis_routing.specs.RoutingInfo.{route_list, route_lists}
 use Rattle.redis_routing.specs.Split.{slots_of}
 use Rattle.redis_routing.proofs.Grouping.{list_added, lists_longer, slot_added}
@@ -22,9 +22,9 @@ returns-then-index-len-clause-lists c =
 pub returns-then-index-len-clause-slots : goal.returns-then-index-len-clause-slots
 returns-then-index-len-clause-slots c =
     let items = c.args.lists.now.items in
-    let kept : AreNumbered c.list_index.new.pages (insert_key nat_eq (slots_of (route_lists items)) c.args.route.slot) = rw (← c.slot.ensures, ← c.deref.ensures.value) c.in_ok-index.ensures.slots in
+    let kept : ArePagesOf c.list_index.new.pages (insert_key nat_eq (slots_of (route_lists items)) c.args.route.slot) = rw (← c.slot.ensures, ← c.deref.ensures.value) c.in_ok-index.ensures.slots in
     on_ok_weaker c.push_places.result
-    (λ is. subst (AreNumbered c.list_index.new.pages) (sym (ap slots_of is ∙ slot_added c.args.route (range_with_len c.args.place c.args.width) (route_lists items))) kept)
+    (λ is. subst (ArePagesOf c.list_index.new.pages) (sym (ap slots_of is ∙ slot_added c.args.route (range_with_len c.args.place c.args.width) (route_lists items))) kept)
     (returns-then-index-len-clause-lists c)
 
 pub returns-clause-lists : goal.returns-clause-lists
@@ -42,5 +42,5 @@ returns-clause-lists c =
 pub returns-clause-slots : goal.returns-clause-slots
 returns-clause-slots c =
     let items = c.args.lists.now.items in
-    let kept : AreNumbered c.list_index.new.pages (insert_key nat_eq (slots_of (route_lists items)) c.args.route.slot) = rw (← c.slot.ensures, ← c.deref.ensures.value) c.in_ok-index.ensures.slots in
-    subst (AreNumbered c.list_index.new.pages) (sym (ap slots_of (returns-clause-lists c) ∙ slot_added c.args.route (range_with_len c.args.place c.args.width) (route_lists items))) kept
+    let kept : ArePagesOf c.list_index.new.pages (insert_key nat_eq (slots_of (route_lists items)) c.args.route.slot) = rw (← c.slot.ensures, ← c.deref.ensures.value) c.in_ok-index.ensures.slots in
+    subst (ArePagesOf c.list_index.new.pages) (sym (ap slots_of (returns-clause-lists c) ∙ slot_added c.args.route (range_with_len c.args.place c.args.width) (route_lists items))) kept

@@ -1,5 +1,5 @@
 use Rattle.std.proofs.Common.{◌≡◌, take}
-use Rattle.redis_routing.specs.Inner.SlotPages.{AreNumbered}
+use Rattle.redis_routing.specs.Inner.SlotPages.{ArePagesOf}
 use Rattle.redis_routing.specs.Groups.{lists_of_tuples}
 use Rattle.redis_routing.specs.PresentArguments.{present_arguments_after}
 use Rattle.redis_routing.specs.RoutingInfo.{route_lists}
@@ -10,5 +10,5 @@ use Rattle.redis_routing.proofs.splitting.group_by_slot.Given as goal
 abbrev pub invariant-loop-number : goal.invariant-loop-number
 invariant-loop-number g l = record {
   lists : route_lists l.lists.items ≡ lists_of_tuples l.fn.nodes (take l.number (tuples_in l.fn.pattern (present_arguments_after l.fn.words (g.R.Routable.args l.fn.command))));
-  slots : AreNumbered l.pages (slots_of (route_lists l.lists.items));
+  slots : ArePagesOf l.pages (slots_of (route_lists l.lists.items));
 }

@@ -4,7 +4,7 @@ use Rattle.std.proofs.lemmas.List.{length-map}
 use Rattle.redis_routing.specs.Lookup.{lookup_name}
 use Rattle.redis_routing.specs.Registry.{Registered, Registrations}
 use Rattle.redis_routing.specs.SameRegistrations.{same_registrations}
-use Rattle.redis_routing.proofs.Registrations.{row_of}
+use Rattle.redis_routing.proofs.Registrations.{registration_of}
 use Rattle.redis_routing.proofs.SameRows.{row_compares, rows_compare, same_registrations-Decides, same_lookups}
 use Rattle.redis_routing.proofs.registry.RegistryPartialEq.eq.Goals as goal
 
@@ -41,6 +41,6 @@ returns-else-len-clause-lookup c =
       (λ alike.
           let same = same_lookups c.self.inside.rows c.other.inside.rows c.len.ensures.ordered c.len-2.ensures.ordered
           (λ name. ap (λ (rows : Registrations). lookup_name rows name) own ∙ alike name ∙ sym (ap (λ (rows : Registrations). lookup_name rows name) others)) in
-          let len : length entries ≡ length other_entries = sym (length-map entries row_of) ∙ ap (length {A = List ℕ × Registered}) same ∙ length-map other_entries row_of in
+          let len : length entries ≡ length other_entries = sym (length-map entries registration_of) ∙ ap (length {A = List ℕ × Registered}) same ∙ length-map other_entries registration_of in
           eq-eqb c.len.result c.len-2.result (c.len.ensures.len ∙ len ∙ sym c.len-2.ensures.len)),
     )

@@ -1,7 +1,7 @@
 use Rattle.std.proofs.Common.{◌≡◌, take}
 use Rattle.cluster_map.specs.Targets.{addresses_behind}
 use Rattle.cluster_map.specs.Inner.NodeSets.{addresses_counted}
-use Rattle.cluster_map.proofs.slot_map.node_set.nodes_of.Given as goal
+use Rattle.cluster_map.proofs.slot_map.node_set.nodes_counted.Given as goal
 
 -- the nodes so far
 abbrev pub invariant-loop-counted : goal.invariant-loop-counted
