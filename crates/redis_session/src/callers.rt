@@ -97,6 +97,30 @@ impl Callers {
         }
     }
 
+    /// Whether the part of a caller at a place waits for earlier calls, whatever becomes of its slot.
+    pub(crate) fn is_held_back(&self, caller: u64, place: u64) -> bool
+        ensures { result ≡ true → (link : ℕ) → MayAsk place link (order_of caller self.now) → ⊥ }
+    {
+        match self.order(caller) {
+            Some(order) => order.is_held_back(place),
+            None => false,
+        }
+    }
+
+    /// The part of a caller on a slot that may be asked now. There is one at most.
+    pub(crate) fn askable_in(&self, caller: u64, slot: u16) -> Option<Askable>
+        ensures may { (place link : ℕ) → Offers result place link
+            → MayAsk place link (order_of caller self.now) × IsOf slot place (order_of caller self.now) }
+        ensures asks { (place link : ℕ) → MayAsk place link (order_of caller self.now)
+            → IsOf slot place (order_of caller self.now) → Offers result place link }
+        ensures seat { IfSome result (λ askable. NamesWaiting askable.place askable.seat (order_of caller self.now)) }
+    {
+        match self.order(caller) {
+            Some(order) => order.askable_in(slot),
+            None => None,
+        }
+    }
+
     /// The first part of a caller on a slot that is overtaken: it waits, and a later one is settled.
     ///
     /// Such a part is never asked again. Call [`Callers::note_unsent`] for it.

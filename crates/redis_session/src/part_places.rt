@@ -1,6 +1,6 @@
 //! The parts of calls in the orders of their callers.
 
-ghost use Rattle.std.specs.Prelude.{◌≡◌, ◌+◌, ◌-◌, ◌^◌, ◌<◌, ◌≤◌, true, false, ℕ, Some, None, IfOk, length, slice_get};
+ghost use Rattle.std.specs.Prelude.{◌≡◌, ◌+◌, ◌-◌, ◌^◌, ◌<◌, ◌≤◌, true, false, ℕ, Some, None, IfOk, IfSome, length, slice_get};
 ghost use Rattle.session_core.specs.declared.ordered_part.Status.TheVariants.{Waits, Asked, Unsent};
 ghost use Rattle.session_core.specs.Order.{MayAsk, OnLink, IsTrimmed, IsWaiting, IsOnItsWay, with_status, trimmed};
 ghost use Rattle.session_core.specs.declared.part.PartOrder.TheVariants.{Free};
@@ -40,6 +40,29 @@ pub(crate) fn place_of(
             places[(call - first) as usize].order + part as u64
         }
         PartOrder::Free => 0,
+    }
+}
+
+/// The place of a part in the order of its caller, if the part is ordered and the place is below 2^64.
+pub(crate) fn ordered_place(
+    first: u64,
+    places: &VecDeque<CallPlaces>,
+    call: u64,
+    part: usize,
+    order: PartOrder,
+) -> Option<u64>
+    requires within { (first ≤ call) × (call - first < length places.now.items) }
+    ensures ordered { IfSome result (λ place. is_ordered order ≡ true) }
+    ensures place { IfSome result (λ place. (at : CallPlaces)
+        → slice_get places.now.items (call - first) ≡ Some at → place ≡ at.order + part) }
+{
+    match order {
+        PartOrder::OfSlot(_) | PartOrder::Whole => {
+            places[(call - first) as usize]
+                .order
+                .checked_add(part as u64)
+        }
+        PartOrder::Free => None,
     }
 }
 

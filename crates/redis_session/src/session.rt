@@ -20,8 +20,8 @@ use crate::calls::{Calls, call_of, waiting};
 use crate::links::Links;
 use crate::part::Part;
 use crate::part_places::{
-    first_order, is_offered, is_past, note_asked, note_given_up, note_unsent, orders_of,
-    owes_before, place_of, reply_place,
+    first_order, is_offered, is_past, note_asked, note_given_up, note_unsent, ordered_place,
+    orders_of, owes_before, place_of, reply_place,
 };
 use crate::took::Took;
 use crate::{calls, telling};
@@ -134,6 +134,17 @@ impl Session {
         match self.links.link(number) {
             Some(link) => link.first_wait(),
             None => None,
+        }
+    }
+
+    /// Number of requests that wait on a link, or 0 without a link.
+    pub fn count_waits(&self, number: usize) -> usize
+        ensures link { (c : Channel) → IsLink self.now number c → result ≡ length c.waits }
+        ensures none { ((c : Channel) → IsLink self.now number c → ⊥) → result ≡ 0 }
+    {
+        match self.links.link(number) {
+            Some(link) => link.count_waits(),
+            None => 0,
         }
     }
 
@@ -473,6 +484,31 @@ impl Session {
                 Some((Ticket::Part(call, part), begun))
             }
         }
+    }
+
+    /// The part of a caller on a slot that may be asked now on some link, if there is one.
+    pub fn next_part(&self, caller: u64, slot: u16) -> Option<Seat> {
+        match self.callers.askable_in(caller, slot) {
+            Some(askable) => Some(askable.seat),
+            None => None,
+        }
+    }
+
+    /// Whether a part waits for earlier calls of its caller, whatever becomes of its slot: it has no slot, or an
+    /// earlier part that is not done has none. Then it may be asked on no link.
+    pub fn is_held_back(&self, call: u64, part: usize) -> bool
+        ensures { result ≡ true → (number : ℕ) (request : List ℕ)
+            → MayAsk self.now number call part request → ⊥ }
+    {
+        let Some((state, it)) = waiting(self.first, &self.calls, call, part) else {
+            return false;
+        };
+        let caller = state.caller();
+        let order = it.order();
+        let Some(place) = ordered_place(self.first, &self.places, call, part, order) else {
+            return false;
+        };
+        self.callers.is_held_back(caller, place)
     }
 
     /// Notes that the reply to a call goes out, which is made of [`Session::call`]. Returns whether it

@@ -171,6 +171,13 @@ impl Link {
         self.waits.is_empty()
     }
 
+    /// Number of requests that wait.
+    pub fn count_waits(&self) -> usize
+        ensures { result ≡ length self.now.waits }
+    {
+        self.waits.len()
+    }
+
     /// Asks something: its request is to be written after all others. For an `ASKING` and its part
     /// call [`Link::ask_asking`].
     ///

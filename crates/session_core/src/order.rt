@@ -181,6 +181,21 @@ impl CallerOrder {
         self.barrier = first_bar(&self.parts, self.barrier);
     }
 
+    /// Whether the part at a place waits for calls before its own, whatever becomes of its slot: it has no slot and an
+    /// earlier part is left, or an earlier part without a slot is not done. Then it may be asked on no link.
+    pub fn is_held_back(&self, place: u64) -> bool
+        ensures { result ≡ true → (link : ℕ) → MayAsk place link self.now → ⊥ }
+    {
+        let Some(part) = self.parts.part(place) else {
+            return false;
+        };
+        match part.order {
+            PartOrder::OfSlot(_) => self.is_barred(part.seat.call),
+            PartOrder::Whole => self.is_held(part.seat.call),
+            PartOrder::Free => false,
+        }
+    }
+
     /// Whether a part without a slot, of an earlier call, is not done.
     fn is_barred(&self, call: u64) -> bool
         ensures barred { result ≡ true → (place : ℕ) × (p : OrderedPart)
