@@ -1,3 +1,4 @@
 mod AddedRows
+mod OwnSlots
 mod PartLists
 mod TableNames

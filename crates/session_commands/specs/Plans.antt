@@ -1,5 +1,5 @@
 -- What a request asks of nodes.
-use Rattle.std.specs.Prelude.{◌≡◌, ◌<◌, ℕ, List, [], ◌∷◌, Bool, true, false, Option, Some, length, map, option_map, slice_get, IfSome}
+use Rattle.std.specs.Prelude.{◌≡◌, ◌≢◌, ◌<◌, ℕ, List, [], ◌∷◌, Bool, true, false, Option, Some, length, map, option_map, slice_get, IfSome}
 use Rattle.resp.specs.Forms.{request}
 use Rattle.cluster_slots.specs.SlotRoute.{SlotRoute}
 use Rattle.redis_bytes.specs.Requests.{IsSplitOf, Words}
@@ -84,3 +84,15 @@ pub record IsCallPlan (names : Names) (added : Added) (words : Words) (plan : Ca
   pub waits_not : waits kind (map Some words) ≡ false
   pub may_refuse_is : plan.may_refuse ≡ may_refuse kind
   pub parts_are : AreCallParts names (map Some words) kind plan.parts
+
+-- Each part has a slot of its own, and a request of at least one byte.
+pub record HaveOwnSlots (parts : List SlotPart) : Type 0 where
+  pub apart : (i j : ℕ) (p q : SlotPart) → i < j → slice_get parts i ≡ Some p → slice_get parts j ≡ Some q
+      → p.slot ≢ q.slot
+  pub full : (i : ℕ) (p : SlotPart) → slice_get parts i ≡ Some p → 0 < length p.request.items
+
+-- If the command is split, each part has a slot of its own: part 0 of `MGET a b {a}c` has slot 15495, and part 1
+-- has slot 3300.
+abbrev pub IsSplitBySlot : CallParts → Type 0
+IsSplitBySlot (parts.Split each) = HaveOwnSlots each.items
+IsSplitBySlot other = Unit {0}

@@ -6,7 +6,7 @@ ghost use Rattle.redis_routing.specs.Routed.{IsRouted, group_nodes};
 ghost use Rattle.redis_routing.specs.Routing.{routing};
 ghost use Rattle.redis_routing.specs.RoutingInfo.{as_single_node, multi_node};
 ghost use Rattle.session_commands.specs.CommandKinds.{kind_of_command};
-ghost use Rattle.session_commands.specs.Plans.{AreCallParts, AreCallPartsTo, AreSlotParts, AreSplitParts, IsCallPlan, IsPartAt, may_refuse, order_at, order_without_slot, slot_of_route};
+ghost use Rattle.session_commands.specs.Plans.{AreCallParts, AreCallPartsTo, AreSlotParts, AreSplitParts, IsCallPlan, IsPartAt, IsSplitBySlot, may_refuse, order_at, order_without_slot, slot_of_route};
 ghost use Rattle.session_commands.specs.Refusals.{IsCallRefused, IsUnreadCall, one_reply, refusal_of, refusal_of_route, waits};
 ghost use Rattle.session_commands.specs.declared.refusal.CallRefusal.TheVariants as refused;
 
@@ -68,6 +68,8 @@ impl CallPlan {
         // The bytes are one request, and the parts are those of its words.
         ensures planned { IfOk result (λ plan. (words : Words) × IsRequest words request.now
             × IsCallPlan (names_in names.entry) added.now words plan) }
+        // Each part of a split command has a slot of its own.
+        ensures slots { IfOk result (λ plan. IsSplitBySlot plan.parts) }
         // Each request has its plan or its refusal, unless memory runs out.
         ensures only { (words : Words) → IsRequest words request.now → MatchResult result
             (λ plan. IsCallPlan (names_in names.entry) added.now words plan)
