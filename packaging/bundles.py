@@ -32,6 +32,7 @@ def make_archive(prefix, room, out):
     for page in PAGES:
         put(ROOT / page, doc / os.path.basename(page))
     put(ROOT / "proxy" / "README.md", doc / "PROXY.md")
+    put(ROOT / "proxy" / "rates.svg", doc / "rates.svg")
     for example in EXAMPLES:
         put(
             ROOT / "examples" / example,

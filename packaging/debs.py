@@ -109,6 +109,7 @@ def proxy_package(prefix, folder):
     unit = folder / "lib" / "systemd" / "system" / "slotroute-proxy.service"
     put(PACKAGING / "slotroute-proxy.service", unit)
     put(ROOT / "proxy" / "README.md", doc / "README.md")
+    put(ROOT / "proxy" / "rates.svg", doc / "rates.svg")
     control(folder, "conffiles", "/etc/slotroute-proxy.conf\n")
     for script in ("postinst", "prerm", "postrm"):
         control(folder, script, (PACKAGING / f"slotroute-proxy.{script}").read_text(), 0o755)

@@ -74,6 +74,15 @@ numbers! {
         NotCovered = 18,
         /// The line of the number `told.at`, counted from 0, registers no name.
         BadName = 19,
+        /// There is none, or none of this number. Only calls of a session, in C, return this and the next
+        /// ones.
+        NotThere = 20,
+        /// A session does not take this command.
+        NotTaken = 21,
+        /// A session does not take a command that waits.
+        Blocking = 22,
+        /// A session keeps as many calls, or bytes of requests, as it may.
+        TooMany = 23,
     }
 }
 

@@ -1,24 +1,7 @@
-pub mod Ties
-pub mod OwedReplies
-pub mod CallerMaps
-pub mod GivenUp
-pub mod Prefixes
-pub mod Outcomes
-pub mod Numbers
-pub mod PartLists
-pub mod CallLists
-pub mod CallChanges
-pub mod LinkSlots
-pub mod PartMoves
-pub mod Lasts
-pub mod Keeping
-pub mod Asking
-pub mod Taking
-pub mod Finishing
-pub mod Beginning
-pub mod Ending
-pub mod Trimming
-pub mod GivingUp
-pub mod Leaving
-pub mod Passing
-pub mod OwnPuts
+mod AddedRows
+pub mod Begins
+pub mod Leads
+mod NodeTables
+mod OwnSlots
+mod PartLists
+mod TableNames

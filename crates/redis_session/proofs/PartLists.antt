@@ -1,61 +1,33 @@
--- A part of a call changes.
-use Rattle.std.specs.List.{slice_get}
-use Rattle.redis_session.specs.Part.{Keeps}
-use Rattle.std.proofs.Common.{subst, Some, ◌≡◌, ◌<◌, ◌≤◌, ◌+◌, ℕ, zero, suc, List, [], ◌∷◌, length, get_or, set, map, refl, sym, ap, ◌∙◌, add-one, arith}
-use Rattle.std.proofs.lemmas.Option.{slice_get_read, same_Some}
-use Rattle.session_core.specs.Places.{changed}
-use Rattle.session_core.specs.Part.{Phase, PartState}
-use Rattle.session_core.specs.State.{CallState}
-use Rattle.session_core.proofs.Places.{set_changed}
-use Rattle.redis_session.specs.Calls.{with_phase}
-use Rattle.redis_session.proofs.Numbers.{changed_past}
+-- Lists of parts, each of which fits its number, and the slots of routes.
+use Rattle.std.proofs.Common.{◌≡◌, ℕ, zero, suc, ◌<◌, ◌++◌, List, [], ◌∷◌, Some, Vec, Global, length, get_or, refl, sym, ap, ◌∙◌, arith}
+use Rattle.std.specs.Prelude.{IfSome, option_map, slice_get}
+use Rattle.std.proofs.lemmas.List.{length-map}
+use Rattle.std.proofs.lemmas.Option.{slice_get-map, slice_get_read}
+use Rattle.cluster_slots.specs.SlotRoute.{SlotRoute}
+use Rattle.redis_routing.specs.RoutingInfo.{route_list, route_lists}
+use Rattle.session_core.specs.declared.part.PartOrder.TheVariants.{OfSlot}
 
--- ---- the first items change
+-- one more, which fits its number
+pub each_more : {A : Type 0} (P : ℕ → A → Type 0) (xs : List A) (x : A) → ((n : ℕ) → IfSome (slice_get xs n) (P n)) → P (length xs) x → (n : ℕ) → IfSome (slice_get (xs ++ x ∷ []) n) (P n)
+each_more P [] x each here zero = here
+each_more P [] x each here (suc n) = tt
+each_more P (y ∷ ys) x each here zero = each zero
+each_more P (y ∷ ys) x each here (suc n) = each_more (λ k. P (suc k)) ys x (λ k. each (suc k)) here n
 
-abbrev pub first_mapped : {X : Type 0} → (X → X) → ℕ → List X → List X
-first_mapped f zero xs = xs
-first_mapped f (suc n) [] = []
-first_mapped f (suc n) (x ∷ xs) = f x ∷ first_mapped f n xs
+-- the slot of the route of this number
+pub slot_at_route : (items : List (SlotRoute × Vec ℕ Global)) (routes : List (SlotRoute × List ℕ)) (n : ℕ) (route : SlotRoute × Vec ℕ Global)
+    → route_lists items ≡ routes → n < length routes → route ≡ get_or items n route → Some route.0.slot ≡ option_map (λ r. r.0.slot) (slice_get routes n)
+slot_at_route items routes n route are within is =
+    let inside : n < length items = omega (arith, within, ap length are, length-map items route_list) in
+    let at : slice_get items n ≡ Some route = slice_get_read items (length items) n route refl inside is in
+    sym (ap (λ rs. option_map (λ r. r.0.slot) (slice_get rs n)) (sym are) ∙ ap (option_map (λ (r : SlotRoute × List ℕ). r.0.slot)) (slice_get-map route_list items n ∙ ap (option_map route_list) at))
 
-mapped_suc : {X : Type 0} (f : X → X) (n : ℕ) (xs : List X) (x d : X) → n < length xs → x ≡ get_or (first_mapped f n xs) n d → set (first_mapped f n xs) n (f x) ≡ first_mapped f (suc n) xs
-mapped_suc f n [] x d h e = absurd (omega arith)
-mapped_suc f zero (y ∷ xs) x d h e = ap (λ z. f z ∷ xs) e
-mapped_suc f (suc n) (y ∷ xs) x d h e = ap (λ ys. f y ∷ ys) (mapped_suc f n xs x d (omega arith) e)
+same_slot : (slot other : ℕ) → Some slot ≡ Some other → OfSlot slot ≡ OfSlot other
+same_slot slot other same = cc
 
-pub mapped_next : {X : Type 0} (f : X → X) (n : ℕ) (xs : List X) (x d : X) → n < length xs → x ≡ get_or (first_mapped f n xs) n d → set (first_mapped f n xs) n (f x) ≡ first_mapped f (n + 1) xs
-mapped_next f n xs x d h e = rw add-one (mapped_suc f n xs x d h e)
-
-pub mapped_all : {X : Type 0} (f : X → X) (n : ℕ) (xs : List X) → length xs ≤ n → first_mapped f n xs ≡ map f xs
-mapped_all f zero [] h = refl
-mapped_all f (suc n) [] h = refl
-mapped_all f zero (x ∷ xs) h = absurd (omega arith)
-mapped_all f (suc n) (x ∷ xs) h = ap (λ ys. f x ∷ ys) (mapped_all f n xs (omega arith))
-
--- ---- one part changes
-
-pub with_part : (s now : CallState) (part : ℕ) (phase : CallState → PartState → Phase) (x y : PartState)
-    → s ≡ now → part < length s.parts → x ≡ get_or s.parts part x → y ≡ record x { phase = phase s x }
-    → ◌≡◌ {A = CallState} (record { caller = s.caller; parts = set s.parts part y; is_wanted = s.is_wanted }) (with_phase part phase now)
-with_part s now part phase x y e within read is =
-    let f : PartState → PartState = λ p. record p { phase = phase s p } in
-    let g : List PartState → CallState = λ ps. record { caller = s.caller; parts = ps; is_wanted = s.is_wanted } in
-    let parts : set s.parts part y ≡ changed f part s.parts = ap (set s.parts part) is ∙ set_changed f part s.parts x (slice_get_read s.parts (length s.parts) part x refl within read) in
-    ap g parts ∙ ap (with_phase part phase) e
-
-pub no_part : (s now : CallState) (part : ℕ) (phase : CallState → PartState → Phase) → s ≡ now → length s.parts ≤ part → now ≡ with_phase part phase now
-no_part s now part phase e past =
-    let f : PartState → PartState = λ p. record p { phase = phase s p } in
-    let g : List PartState → CallState = λ ps. record { caller = s.caller; parts = ps; is_wanted = s.is_wanted } in
-    sym e ∙ ap g (sym (changed_past f part s.parts past)) ∙ ap (with_phase part phase) e
-
--- ---- the part that changed
-
-pub get_set_same : {X : Type 0} (xs : List X) (i : ℕ) (x : X) → i < length xs → slice_get (set xs i x) i ≡ Some x
-get_set_same [] i x h = absurd (omega arith)
-get_set_same (y ∷ xs) zero x h = refl
-get_set_same (y ∷ xs) (suc i) x h = get_set_same xs i x (omega arith)
-
-pub kept_part : (parts : List PartState) (part : ℕ) (y : PartState) (reply : List ℕ) → part < length parts → Keeps reply y.phase → (p : PartState) → slice_get (set parts part y) part ≡ Some p → Keeps reply p.phase
-kept_part parts part y reply within kept p e =
-    let same : y ≡ p = same_Some y p (sym (get_set_same parts part y within) ∙ e) in
-    subst (λ (q : PartState). Keeps reply q.phase) same kept
+-- the only route
+pub only_route : (routes : List (SlotRoute × List ℕ)) (slot : ℕ) → length routes ≡ 1 → Some slot ≡ option_map (λ r. r.0.slot) (slice_get routes 0)
+    → (route : SlotRoute × List ℕ) × (routes ≡ route ∷ []) × (OfSlot slot ≡ OfSlot route.0.slot)
+only_route [] slot one is = absurd (omega arith)
+only_route (route ∷ []) slot one is = (route, refl, same_slot slot route.0.slot is)
+only_route (route ∷ other ∷ more) slot one is = absurd (omega arith)

@@ -1,6 +1,7 @@
--- Messages of the Redis serialization protocol, version 2 or 3, as lists of heads. A head is a line,
--- with the bytes that a bulk string has after it. It announces how many items follow it, and each
--- item begins with a head of its own. So `*1`, `$2` with "hi" are two heads, and one message.
+-- Messages of the Redis serialization protocol, version 2 or 3, as lists of heads. Streamed types,
+-- such as `$?`, are left out. A head is a line, with the bytes that a bulk string has after it. It
+-- announces how many items follow it, and each item begins with a head of its own. So `*1`, `$2`
+-- with "hi" are two heads, and one message.
 use Rattle.std.specs.Prelude.{◌≡◌, ◌≢◌, ◌+◌, ◌-◌, ◌*◌, ◌<◌, ◌≤◌, ◌^◌, ◌⊎◌, ◌==◌, ℕ, Bool, if◌then◌else◌, List, [], ◌∷◌, ◌++◌, length, drop, codes, bytes_eq, Option, Some, None, Result, Ok, Err}
 use Rattle.std.specs.List.{AllByRecursion, list_any}
 use Rattle.std.specs.Option.{unwrap_or}

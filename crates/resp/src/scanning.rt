@@ -35,8 +35,9 @@ impl Progress {
 
 /// Looks for the end of the message at the front of some bytes, and goes on where the last call
 /// stopped. So a message that arrives in pieces is gone over once. `bytes` begin with the message's
-/// first byte at each call. A message is a reply of version 2 or 3, a push or a request, with items
-/// nested to any depth. Attributes belong to the reply after them, as `|1\r\n+ttl\r\n:9\r\n+OK\r\n`.
+/// first byte at each call. A message is a reply of version 2 or 3, except streamed types such as
+/// `$?`, or a push or a request, with items nested to any depth. Attributes belong to the reply
+/// after them, as `|1\r\n+ttl\r\n:9\r\n+OK\r\n`.
 ///
 /// The result is the message's length. The progress is then that of a new message. Any bytes and
 /// any numbers in `progress` may be passed. Lengths and counts are judged, other texts of lines are

@@ -1,12 +1,12 @@
 //! What a session asks of nodes for a request, and what a caller is told if it fails.
 use fixtures::{bad_row, bytes, cmd, cut, debug, okay, pieces, plain, two};
 use redis_routing::{Names, ReadOnlyNames, Registry};
-use resp::write_command;
-use resp_core::RedisResult;
-use session_commands::{
+use redis_session::{
     AddedNames, CallPlan, CallRefusal, ErrorCause, PartFate, command_kind, effect_of, error_reply,
     no_tries_reply, split_reply,
 };
+use resp::write_command;
+use resp_core::RedisResult;
 use std::alloc::Global;
 
 /// The names that earlier rows added.

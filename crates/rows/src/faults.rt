@@ -1,8 +1,10 @@
-//! What the faults of bytes print.
+//! What faults print that no other row has.
 use fixtures::{bad_row, shown};
+use redis_batch_bytes::BatchFault;
 use redis_bytes::BytesFault;
 use resp::{Fault, ReadError, RequestError, RequestFault, WriteError};
 use resp_core::RedisResult;
+use slotroute_serve::{CommandFault, Refusal};
 use std::alloc::Global;
 
 /// What a fault of this name prints.
@@ -12,6 +14,8 @@ pub fn call(alloc: Global, name: &str) -> RedisResult<String> {
         "request" => shown(alloc, &RequestError::Fault(RequestFault::Malformed(7))),
         "write" => shown(alloc, &WriteError::NoForm),
         "bytes" => shown(alloc, &BytesFault::AfterReplies(8)),
+        "command" => shown(alloc, &CommandFault::Refused(Refusal::NotCovered(5061))),
+        "pipeline" => shown(alloc, &BatchFault::NotRoutable(1)),
         _ => Err(bad_row("no fault of this name")),
     }
 }

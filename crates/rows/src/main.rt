@@ -1,10 +1,13 @@
-//! Answers rows of calls that keep no node: of values, slots, maps, routing, combining and plans, and
-//! what faults print. A row names a call, its words and what it returns.
+//! Makes the calls that the lines of its input name: of values, slots, maps, routing, combining and plans,
+//! of commands that are sent to nodes, of runs of the program, and of sessions. A row has what its call
+//! returns, too.
 #![tactic(auto)]
 
 mod addresses;
 mod calls;
 mod commands;
+mod connections;
+mod driving;
 mod faults;
 mod links;
 mod maps;
@@ -13,19 +16,27 @@ mod picked;
 mod plans;
 mod ranges;
 mod reads;
+mod retries;
 mod routing;
+mod serving;
 mod sessions;
+mod shell;
 mod slots;
+mod split_plans;
+mod traces;
 
 use crate::calls::CallRows;
+use crate::driving::Driven;
 use crate::order::Order;
 use crate::routing::{Known, combiners, pipelines};
+use crate::shell::new_session;
 use cluster_map::SlotMap;
 use fixtures::{Calls, bad_row, debug, run};
 use redis_cluster::pipeline::{ClusterPipeline, cluster_pipe};
-use redis_session::Session;
+use redis_session::{AddedNames, Session};
 use resp_core::RedisResult;
 use session_core::Link;
+use session_machine::Machine;
 use std::alloc::Global;
 use std::process::ExitCode;
 
@@ -35,9 +46,11 @@ struct Rows {
     map: SlotMap,
     known: Known,
     pipeline: ClusterPipeline,
+    driven: Driven,
     link: Link,
     order: Order,
     calls: CallRows,
+    machine: Machine,
     session: Session,
 }
 
@@ -61,10 +74,15 @@ impl Rows {
             "combining" => combiners::call(alloc, name, words),
             "pipelines" => pipelines::call(&mut self.pipeline, alloc, name, words),
             "plans" => plans::call(&self.map, alloc, name, words),
+            "retries" => retries::call(&mut self.map, alloc, name, words),
+            "drive" => driving::call(&mut self.driven, alloc, name, words),
+            "connections" => connections::call(&self.map, alloc, name, words),
+            "serve" => serving::call(alloc, name, words),
             "links" => links::call(&mut self.link, alloc, name, words),
             "order" => self.order.call(alloc, name, words),
             "calls" => self.calls.call(alloc, name, words),
-            "session" => sessions::call(&mut self.session, alloc, name, words),
+            "session" => sessions::call(&mut self.machine, alloc, name, words),
+            "shell" => shell::call(&mut self.session, alloc, name, words),
             _ => Err(bad_row("no topic of this name")),
         }
     }
@@ -93,10 +111,12 @@ fn main(rt: HostRuntime) -> ExitCode {
         map: SlotMap::new(alloc),
         known: Known::new(alloc),
         pipeline: cluster_pipe(alloc),
+        driven: Driven::new(alloc),
         link: Link::new(alloc, 0),
         order: Order::new(alloc),
         calls: CallRows::new(alloc),
-        session: Session::new(alloc),
+        machine: Machine::new(alloc),
+        session: new_session(alloc, Vec::new(alloc), AddedNames::new(alloc)),
     };
     run(&rt, &mut rows)
 }

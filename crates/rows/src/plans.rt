@@ -2,6 +2,7 @@
 //! none is registered.
 use crate::reads::asked;
 use crate::routing::Known;
+use crate::split_plans::{combine, once};
 use cluster_map::SlotMap;
 use fixtures::{
     answer_of, bad_row, cmd, cut, number, or_text, push_next, shown, two, value_text, values,
@@ -25,6 +26,8 @@ pub fn call(slots: &SlotMap, alloc: Global, name: &str, words: &str) -> RedisRes
             nodes(alloc, &plan_of(alloc, slots, &command, number(pick)?)?)
         }
         "asked" => asked(alloc, slots, words),
+        "combine" => combine(alloc, slots, words),
+        "once" => once(alloc, words),
         _ => Err(bad_row("no call of this name")),
     }
 }

@@ -8,16 +8,16 @@ mod parts;
 
 use crate::sessions::parts::can_begin;
 use fixtures::{bad_row, bytes, cut, debug, number, okay, pieces, plain, push_next, two};
-use redis_session::{Call, Part, Session};
 use resp_core::RedisResult;
 use session_core::{PartOrder, Standing};
+use session_machine::{Call, Machine, Part};
 use std::alloc::Global;
 
 /// What a call of this name returns.
-pub fn call(session: &mut Session, alloc: Global, name: &str, words: &str) -> RedisResult<String> {
+pub fn call(session: &mut Machine, alloc: Global, name: &str, words: &str) -> RedisResult<String> {
     let (first, rest) = two(words);
     match name {
-        "session" => *session = Session::new(alloc),
+        "session" => *session = Machine::new(alloc),
         "open" => return debug(alloc, &session.open(alloc, number(words)?)?),
         "begin" => return begin(session, alloc, number(first)?, rest),
         "give-up" => return debug(alloc, &session.give_up(number(words)?)),
@@ -35,7 +35,7 @@ pub fn call(session: &mut Session, alloc: Global, name: &str, words: &str) -> Re
 
 /// What a call of this name returns that names a link.
 fn on_link(
-    session: &mut Session,
+    session: &mut Machine,
     alloc: Global,
     name: &str,
     link: usize,
@@ -54,7 +54,7 @@ fn on_link(
 
 /// What a call of this name returns that takes an open link.
 fn on_open(
-    session: &mut Session,
+    session: &mut Machine,
     alloc: Global,
     name: &str,
     link: usize,
@@ -80,7 +80,7 @@ fn on_open(
 }
 
 /// Asks the login of a link.
-fn login(session: &mut Session, link: usize, request: &[u8]) -> RedisResult<()>
+fn login(session: &mut Machine, link: usize, request: &[u8]) -> RedisResult<()>
     requires { (c : Channel) × IsLink session.old link c × (c.standing ≡ Open) }
 {
     if request.is_empty() {
@@ -90,7 +90,7 @@ fn login(session: &mut Session, link: usize, request: &[u8]) -> RedisResult<()>
 }
 
 /// Asks for a map after so many `MOVED`.
-fn map(session: &mut Session, alloc: Global, link: usize, words: &str) -> RedisResult<()>
+fn map(session: &mut Machine, alloc: Global, link: usize, words: &str) -> RedisResult<()>
     requires { (c : Channel) × IsLink session.old link c × (c.standing ≡ Open) }
 {
     let (count, request) = two(words);
@@ -102,7 +102,7 @@ fn map(session: &mut Session, alloc: Global, link: usize, words: &str) -> RedisR
 }
 
 /// Notes that bytes were written, if there are so many.
-fn wrote(session: &mut Session, alloc: Global, link: usize, count: usize) -> RedisResult<String> {
+fn wrote(session: &mut Machine, alloc: Global, link: usize, count: usize) -> RedisResult<String> {
     let (Some(Standing::Open) | Some(Standing::Broken)) = session.standing(link) else {
         return Err(bad_row("not on a link that stands so"));
     };
@@ -113,7 +113,7 @@ fn wrote(session: &mut Session, alloc: Global, link: usize, count: usize) -> Red
     okay(alloc)
 }
 
-fn end(session: &mut Session, alloc: Global, link: usize) -> RedisResult<String> {
+fn end(session: &mut Machine, alloc: Global, link: usize) -> RedisResult<String> {
     let (Some(Standing::Open) | Some(Standing::Broken)) = session.standing(link) else {
         return Err(bad_row("not on a link that stands so"));
     };
@@ -121,7 +121,7 @@ fn end(session: &mut Session, alloc: Global, link: usize) -> RedisResult<String>
     okay(alloc)
 }
 
-fn lose(session: &mut Session, alloc: Global, link: usize) -> RedisResult<String> {
+fn lose(session: &mut Machine, alloc: Global, link: usize) -> RedisResult<String> {
     let Some(Standing::Ended) = session.standing(link) else {
         return Err(bad_row("not on a link that stands so"));
     };
@@ -129,7 +129,7 @@ fn lose(session: &mut Session, alloc: Global, link: usize) -> RedisResult<String
 }
 
 /// Begins a call of the parts that the words are.
-fn begin(session: &mut Session, alloc: Global, caller: u64, words: &str) -> RedisResult<String> {
+fn begin(session: &mut Machine, alloc: Global, caller: u64, words: &str) -> RedisResult<String> {
     let mut parts = Vec::new(alloc);
     for word in pieces(alloc, words, " ")? {
         parts.push(new_part(alloc, word)?)?;
@@ -159,7 +159,7 @@ fn new_part(alloc: Global, word: &str) -> RedisResult<Part> {
     ))
 }
 
-fn end_part(session: &mut Session, alloc: Global, seat: &str, why: &str) -> RedisResult<String> {
+fn end_part(session: &mut Machine, alloc: Global, seat: &str, why: &str) -> RedisResult<String> {
     let (call, part) = cut(seat, ".");
     let (call, part) = (number(call)?, number(part)?);
     match why {
@@ -169,12 +169,12 @@ fn end_part(session: &mut Session, alloc: Global, seat: &str, why: &str) -> Redi
     }
 }
 
-fn overtaken(session: &mut Session, alloc: Global, caller: u64, slot: u16) -> RedisResult<String> {
+fn overtaken(session: &mut Machine, alloc: Global, caller: u64, slot: u16) -> RedisResult<String> {
     debug(alloc, &session.end_overtaken(caller, slot))
 }
 
 /// How far the parts are of which a reply is made, if it is.
-fn finish(session: &mut Session, alloc: Global, call: u64) -> RedisResult<String> {
+fn finish(session: &mut Machine, alloc: Global, call: u64) -> RedisResult<String> {
     if !session.finish(call) {
         return plain(alloc, "None");
     }
@@ -193,7 +193,7 @@ fn push_phases(alloc: Global, text: &mut String, state: &Call) -> RedisResult<()
 }
 
 /// How far a part is.
-fn phase(session: &Session, alloc: Global, seat: &str) -> RedisResult<String> {
+fn phase(session: &Machine, alloc: Global, seat: &str) -> RedisResult<String> {
     let (call, part) = cut(seat, ".");
     let (call, part): (u64, usize) = (number(call)?, number(part)?);
     let Some(state) = session.call(call) else {

@@ -1,5 +1,5 @@
 //! The base of a session for clients of Redis Cluster. It touches no socket, thread or clock. The
-//! session as a whole is a machine, in `specs/State.antt`. The crate `redis_session` has its code.
+//! session as a whole is a machine, in `specs/State.antt`. The crate `session_machine` has its code.
 //!
 //! [`Link`] is one connection to a node: what is asked on it in order, and whose replies come.
 //! [`CallerOrder`] has the parts of one caller in the order of its calls, and says which may be asked.

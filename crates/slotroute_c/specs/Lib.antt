@@ -8,3 +8,6 @@ pub mod Named
 pub mod Parts
 pub mod Tables
 pub mod Pipelines
+pub mod SessionBlocks
+pub mod SessionHandles
+pub mod Refused

@@ -3,7 +3,7 @@ use Rattle.std.specs.Prelude.{◌==◌, ◌||◌, ℕ, Bool, false, List, [], �
 use Rattle.resp.specs.declared.fault.Fault.{Fault}
 use Rattle.resp.specs.declared.fault.Fault.TheVariants.{Incomplete, Malformed, TooDeep}
 use Rattle.slotroute_c.specs.declared.outcomes.Outcome.{Outcome}
-use Rattle.slotroute_c.specs.declared.outcomes.Outcome.TheVariants.{Done, NoMemory, TooSmall, RequestIncomplete, RequestMalformed, AfterRequest, NotMultiKey, ReplyIncomplete, ReplyMalformed, ReplyTooDeep, ReplyIsError, AfterReplies, Unfit, NoForm, NotText, NoRedirect, LineFeedInHost, NotRoutable, NotCovered, BadName}
+use Rattle.slotroute_c.specs.declared.outcomes.Outcome.TheVariants.{Done, NoMemory, TooSmall, RequestIncomplete, RequestMalformed, AfterRequest, NotMultiKey, ReplyIncomplete, ReplyMalformed, ReplyTooDeep, ReplyIsError, AfterReplies, Unfit, NoForm, NotText, NoRedirect, LineFeedInHost, NotRoutable, NotCovered, BadName, NotThere, NotTaken, Blocking, TooMany}
 
 abbrev pub code : Outcome → ℕ
 code Done = 0
@@ -26,6 +26,10 @@ code LineFeedInHost = 16
 code NotRoutable = 17
 code NotCovered = 18
 code BadName = 19
+code NotThere = 20
+code NotTaken = 21
+code Blocking = 22
+code TooMany = 23
 
 abbrev pub text : Outcome → List ℕ
 text Done = codes "done"
@@ -48,6 +52,10 @@ text LineFeedInHost = codes "a host has a line feed"
 text NotRoutable = codes "a command goes to no single slot and is not split by slot"
 text NotCovered = codes "a slot of a command has no node"
 text BadName = codes "a line registers no name"
+text NotThere = codes "there is none"
+text NotTaken = codes "shared links do not take this command"
+text Blocking = codes "shared links do not take a command that waits"
+text TooMany = codes "too many commands wait"
 
 -- the text of a code
 abbrev pub message : ℕ → List ℕ
@@ -72,7 +80,11 @@ message number =
     else (if number == 17 then text NotRoutable
     else (if number == 18 then text NotCovered
     else (if number == 19 then text BadName
-    else codes "no answer of this library")))))))))))))))))))
+    else (if number == 20 then text NotThere
+    else (if number == 21 then text NotTaken
+    else (if number == 22 then text Blocking
+    else (if number == 23 then text TooMany
+    else codes "no answer of this library")))))))))))))))))))))))
 
 -- whether a number is the code of one of these outcomes
 abbrev pub is_one_of : ℕ → List Outcome → Bool

@@ -46,6 +46,14 @@ pub enum Outcome {
     NotCovered,
     /// A line registers no name.
     BadName,
+    /// What is asked for is not there.
+    NotThere,
+    /// Shared links do not take the command.
+    NotTaken,
+    /// The command waits, as `XREAD BLOCK`.
+    Blocking,
+    /// The session keeps as many calls, or bytes of requests, as it may.
+    TooMany,
 }
 
 impl Outcome {
@@ -74,6 +82,10 @@ impl Outcome {
             Outcome::NotRoutable => 17,
             Outcome::NotCovered => 18,
             Outcome::BadName => 19,
+            Outcome::NotThere => 20,
+            Outcome::NotTaken => 21,
+            Outcome::Blocking => 22,
+            Outcome::TooMany => 23,
         }
     }
 }
@@ -103,6 +115,10 @@ fn message(number: u32) -> &'static str
         17 => "a command goes to no single slot and is not split by slot",
         18 => "a slot of a command has no node",
         19 => "a line registers no name",
+        20 => "there is none",
+        21 => "shared links do not take this command",
+        22 => "shared links do not take a command that waits",
+        23 => "too many commands wait",
         _ => "no answer of this library",
     }
 }

@@ -4,11 +4,11 @@ ghost use Rattle.std.specs.Prelude.{◌≡◌, ◌<◌, ◌⊎◌, true, false, 
 ghost use Rattle.std.specs.List.{list_all};
 ghost use Rattle.session_core.specs.Part.{PartState, is_waiting, have_slot};
 ghost use Rattle.session_core.specs.State.{AreApart};
-ghost use Rattle.redis_session.specs.Begun.{HaveRequests};
-ghost use Rattle.redis_session.specs.Ties.{is_ordered, AreOrdered, AreFree};
+ghost use Rattle.session_machine.specs.Begun.{HaveRequests};
+ghost use Rattle.session_machine.specs.Ties.{is_ordered, AreOrdered, AreFree};
 
-use redis_session::Part;
 use session_core::PartOrder;
+use session_machine::Part;
 
 /// Whether parts can be those of one call: each has a request and waits, no two have one slot, and each
 /// is free of the order or none is.

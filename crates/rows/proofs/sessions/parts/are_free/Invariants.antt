@@ -1,6 +1,6 @@
 use Rattle.std.proofs.Common.{◌≡◌, ◌<◌, false, ℕ, Some, slice_get}
 use Rattle.session_core.specs.Part.{PartState}
-use Rattle.redis_session.specs.Ties.{is_ordered}
+use Rattle.session_machine.specs.Ties.{is_ordered}
 use Rattle.rows.proofs.sessions.parts.are_free.Given as goal
 
 abbrev pub invariant-loop-at : goal.invariant-loop-at

@@ -1,5 +1,0 @@
-use Rattle.cluster_session.specs.Leads.{Leads}
-use Rattle.cluster_session.proofs.session.Session.end_overtaken.Given as goal
-
-abbrev pub invariant-loop : goal.invariant-loop
-invariant-loop l = Leads l.fn.self l.self-inside.machine

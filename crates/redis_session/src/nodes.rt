@@ -1,0 +1,374 @@
+//! The nodes that a session knows, and its links to them.
+
+use crate::number_queue::NumberQueue;
+use cluster_map::NodeAddress;
+use std::alloc::{AllocError, Global};
+use std::collections::BTreeMap;
+
+/// How many nodes a session knows at most.
+const MOST_NODES: usize = 65534;
+
+/// The link to a node, as far as there is one.
+#[derive(Clone, Copy, Debug, PartialEq, Eq)]
+pub(crate) enum NodeLink {
+    /// There is none.
+    Missing,
+    /// The link of this number was opened, and its login is not answered.
+    Opening(usize),
+    /// Parts may be asked on the link of this number.
+    Ready(usize),
+}
+
+/// What is known of a link.
+#[derive(Clone, Copy, Debug)]
+struct LinkRecord {
+    node: Option<usize>,
+    /// If it owes a reply: when something was asked on it that owed nothing, or a byte came after that.
+    silent_since: u64,
+}
+
+const NO_LINK: LinkRecord = LinkRecord {
+    node: None,
+    silent_since: 0,
+};
+
+/// A node that the session knows.
+#[derive(Drop)]
+struct Node {
+    address: NodeAddress,
+    link: NodeLink,
+    /// The number of the last map that had it.
+    last_map: u64,
+}
+
+/// The nodes that a session knows, by numbers that stay, and its links. Each function takes constant time, or
+/// logarithmic time if it takes an address.
+#[derive(Drop)]
+pub(crate) struct Nodes {
+    nodes: Vec<Node>,
+    numbers: BTreeMap<NodeAddress, usize>,
+    /// How many maps were learned.
+    map_count: u64,
+    /// The nodes that need a link and were not named to the shell yet.
+    wanted: NumberQueue,
+    /// The nodes that have a link or need one.
+    busy: NumberQueue,
+    /// The nodes whose link is ready. The first one is asked for the map next.
+    ready: NumberQueue,
+    /// What is known of each link.
+    links: Vec<LinkRecord>,
+    /// The links that are to be closed.
+    closing: NumberQueue,
+    /// The links that owe a reply and are not to be closed, in the order in which their silence began.
+    owing: NumberQueue,
+    /// The links on which something was asked since they were named to the shell.
+    to_write: NumberQueue,
+    /// The node whose turn it was last to get a link if none is ready.
+    last_turn: usize,
+    /// Whether its turn is over, as the link to it failed.
+    is_turn_over: bool,
+}
+
+impl Nodes {
+    /// No nodes.
+    pub(crate) fn new(alloc: Global) -> Nodes {
+        Nodes {
+            nodes: Vec::new(alloc),
+            numbers: BTreeMap::new(alloc),
+            map_count: 0,
+            wanted: NumberQueue::new(alloc),
+            busy: NumberQueue::new(alloc),
+            ready: NumberQueue::new(alloc),
+            links: Vec::new(alloc),
+            closing: NumberQueue::new(alloc),
+            owing: NumberQueue::new(alloc),
+            to_write: NumberQueue::new(alloc),
+            last_turn: 0,
+            is_turn_over: true,
+        }
+    }
+
+    /// How many nodes are known. Their numbers are below this.
+    pub(crate) fn len(&self) -> usize {
+        self.nodes.len()
+    }
+
+    /// The number of a node, if it is known.
+    pub(crate) fn number(&self, address: &NodeAddress) -> Option<usize> {
+        self.numbers.get(address).copied()
+    }
+
+    /// Adds a node that is not known. Returns its number, or `None` if there are too many.
+    ///
+    /// # Errors
+    ///
+    /// If memory runs out. Nothing changes then.
+    pub(crate) fn add(&mut self, address: &NodeAddress) -> Result<Option<usize>, AllocError> {
+        let number = self.nodes.len();
+        if number >= MOST_NODES {
+            return Ok(None);
+        }
+        self.wanted.make_room(number)?;
+        self.busy.make_room(number)?;
+        self.ready.make_room(number)?;
+        self.nodes.reserve(1)?;
+        let node = Node {
+            address: address.clone()?,
+            link: NodeLink::Missing,
+            last_map: 0,
+        };
+        self.numbers.insert(address.clone()?, number)?;
+        self.nodes.push(node)?;
+        Ok(Some(number))
+    }
+
+    /// The address of a node.
+    pub(crate) fn address(&self, node: usize) -> Option<&NodeAddress> {
+        Some(&self.nodes.get(node)?.address)
+    }
+
+    /// Notes that a map was learned, which has these nodes.
+    pub(crate) fn note_map(&mut self, addresses: &[&NodeAddress]) {
+        self.map_count = self.map_count.saturating_add(1);
+        for address in addresses {
+            if let Some(node) = self.number(address) {
+                self.note_in_map(node);
+            }
+        }
+    }
+
+    /// Notes that the last map has a node.
+    pub(crate) fn note_in_map(&mut self, node: usize) {
+        if let Some(at) = self.nodes.get_mut(node) {
+            at.last_map = self.map_count;
+        }
+    }
+
+    /// Whether the last map has a node.
+    pub(crate) fn is_in_map(&self, node: usize) -> bool {
+        match self.nodes.get(node) {
+            Some(at) => at.last_map == self.map_count,
+            None => false,
+        }
+    }
+
+    /// The link to a node.
+    pub(crate) fn link(&self, node: usize) -> NodeLink {
+        match self.nodes.get(node) {
+            Some(node) => node.link,
+            None => NodeLink::Missing,
+        }
+    }
+
+    /// The node of a link.
+    pub(crate) fn node_of(&self, link: usize) -> Option<usize> {
+        self.links.get(link)?.node
+    }
+
+    /// The node to which a link is opening, whose login is not answered.
+    pub(crate) fn opening_node(&self, link: usize) -> Option<usize> {
+        let node = self.node_of(link)?;
+        if self.link(node) == NodeLink::Opening(link) {
+            Some(node)
+        } else {
+            None
+        }
+    }
+
+    /// The address of the node of a link.
+    pub(crate) fn address_of_link(&self, link: usize) -> Option<&NodeAddress> {
+        self.address(self.node_of(link)?)
+    }
+
+    /// Makes room for a link of this number.
+    ///
+    /// # Errors
+    ///
+    /// If memory runs out. Nothing changes then.
+    pub(crate) fn make_room(&mut self, link: usize) -> Result<(), AllocError> {
+        self.closing.make_room(link)?;
+        self.owing.make_room(link)?;
+        self.to_write.make_room(link)?;
+        if self.links.len() <= link {
+            self.links.resize(link.saturating_add(1), NO_LINK)?;
+        }
+        Ok(())
+    }
+
+    /// Notes how the link to a node stands.
+    pub(crate) fn set_link(&mut self, node: usize, link: NodeLink) {
+        let Some(at) = self.nodes.get_mut(node) else {
+            return;
+        };
+        at.link = link;
+        self.wanted.remove(node);
+        self.ready.remove(node);
+        match link {
+            NodeLink::Missing => self.leave(node),
+            NodeLink::Opening(number) => self.join(node, number),
+            NodeLink::Ready(number) => {
+                self.join(node, number);
+                self.ready.push_back(node);
+            }
+        }
+    }
+
+    /// Notes that a node has no link and needs none.
+    fn leave(&mut self, node: usize) {
+        self.busy.remove(node);
+        if node == self.last_turn {
+            self.is_turn_over = true;
+        }
+    }
+
+    /// Notes that a link is the one to a node.
+    fn join(&mut self, node: usize, link: usize) {
+        self.busy.push_back(node);
+        if let Some(at) = self.links.get_mut(link) {
+            at.node = Some(node);
+        }
+    }
+
+    /// Notes that a link is to be closed. Its node has no link then.
+    pub(crate) fn note_closing(&mut self, link: usize) {
+        if self.closing.contains(link) {
+            return;
+        }
+        self.closing.push_back(link);
+        self.owing.remove(link);
+        self.to_write.remove(link);
+        self.forget_link_of(self.node_of(link), link);
+    }
+
+    /// The first link that is to be closed.
+    pub(crate) fn first_closing(&self) -> Option<usize> {
+        self.closing.first()
+    }
+
+    /// Notes that a link ended. Returns its node.
+    pub(crate) fn drop_link(&mut self, link: usize) -> Option<usize> {
+        self.closing.remove(link);
+        self.owing.remove(link);
+        self.to_write.remove(link);
+        let at = self.links.get_mut(link)?;
+        let node = at.node;
+        *at = NO_LINK;
+        self.forget_link_of(node, link);
+        node
+    }
+
+    /// Names a link on which something was asked, each once after that.
+    pub(crate) fn pop_to_write(&mut self) -> Option<usize> {
+        let link = self.to_write.first()?;
+        self.to_write.remove(link);
+        Some(link)
+    }
+
+    /// Notes that something was asked on a link. If the link owed nothing, its silence begins now.
+    pub(crate) fn note_asked(&mut self, link: usize, now: u64) {
+        self.to_write.push_back(link);
+        if !self.owing.contains(link) {
+            self.begin_silence(link, now);
+        }
+    }
+
+    /// Notes that bytes came on a link. If it owes a reply still, its silence begins now.
+    pub(crate) fn note_heard(&mut self, link: usize, owes: bool, now: u64) {
+        self.owing.remove(link);
+        if owes {
+            self.begin_silence(link, now);
+        }
+    }
+
+    /// Notes that the silence of a link begins now, unless the link is to be closed.
+    fn begin_silence(&mut self, link: usize, now: u64) {
+        if self.closing.contains(link) {
+            return;
+        }
+        if let Some(at) = self.links.get_mut(link) {
+            at.silent_since = now;
+        }
+        self.owing.push_back(link);
+    }
+
+    /// When the silence began that lasts longest, if a link owes a reply.
+    pub(crate) fn first_silence(&self) -> Option<u64> {
+        let link = self.owing.first()?;
+        Some(self.links.get(link)?.silent_since)
+    }
+
+    /// Notes that each link is to be closed whose silence lasts at least so long.
+    pub(crate) fn close_silent(&mut self, silence: u64, now: u64) {
+        for _ in 0..self.links.len() {
+            let (Some(link), Some(since)) = (self.owing.first(), self.first_silence()) else {
+                return;
+            };
+            if since.saturating_add(silence) > now {
+                return;
+            }
+            self.note_closing(link);
+        }
+    }
+
+    /// Notes that a node has no link, if this was its link.
+    fn forget_link_of(&mut self, node: Option<usize>, link: usize) {
+        let Some(number) = node else {
+            return;
+        };
+        let (NodeLink::Opening(own) | NodeLink::Ready(own)) = self.link(number) else {
+            return;
+        };
+        if own == link {
+            self.set_link(number, NodeLink::Missing);
+        }
+    }
+
+    /// Notes that a node needs a link, if it has none.
+    pub(crate) fn want(&mut self, node: usize) {
+        if self.busy.contains(node) {
+            return;
+        }
+        self.busy.push_back(node);
+        self.wanted.push_back(node);
+    }
+
+    /// Names a node that needs a link, each once.
+    pub(crate) fn pop_wanted(&mut self) -> Option<usize> {
+        let node = self.wanted.first()?;
+        self.wanted.remove(node);
+        Some(node)
+    }
+
+    /// A node that parts without a slot are asked at: one whose link is ready, or else one that needs a link.
+    pub(crate) fn any(&mut self) -> Option<usize> {
+        if let Some(node) = self.ready.first() {
+            return Some(node);
+        }
+        self.want_next();
+        self.busy.first()
+    }
+
+    /// The ready link of the node whose turn it is to be asked for the map, if a link is ready.
+    pub(crate) fn next_ready(&mut self) -> Option<usize> {
+        let node = self.ready.first()?;
+        self.ready.push_back(node);
+        match self.link(node) {
+            NodeLink::Ready(link) => Some(link),
+            NodeLink::Opening(_) | NodeLink::Missing => None,
+        }
+    }
+
+    /// Notes that some node needs a link, since none is ready. The nodes take turns: the next one has its turn if the
+    /// link to the last one failed.
+    pub(crate) fn want_next(&mut self) {
+        if !self.is_turn_over {
+            return;
+        }
+        self.is_turn_over = false;
+        self.last_turn = self.last_turn.saturating_add(1);
+        if self.last_turn >= self.nodes.len() {
+            self.last_turn = 0;
+        }
+        self.want(self.last_turn);
+    }
+}

@@ -1,0 +1,430 @@
+//! Which parts are asked, and where.
+
+ghost use Rattle.std.specs.Prelude.{◌≡◌, ◌<◌, ◌++◌, ◌∷◌, [], false, length, IfOk, OnOk};
+ghost use Rattle.redis_session.specs.Plans.{HaveOwnSlots};
+ghost use Rattle.redis_session.specs.Begins.{CanBegin, IsNewPart, has_slot};
+
+use crate::nodes::NodeLink;
+use crate::plan::{CallParts, CallPlan, SlotPart};
+use crate::refusal::CallRefusal;
+use crate::schedule::{CallRecord, PartRecord, ReplyRule, Room, Target};
+use crate::session::{Session, number_of};
+use cluster_map::NodeAddress;
+use redis_routing::{Names, NodeGroup};
+use session_core::{PartOrder, Seat, Standing};
+use session_machine::Part;
+use std::alloc::{AllocError, Global};
+
+/// The request for the map.
+const CLUSTER_SLOTS: &[u8] = b"*2\r\n$7\r\nCLUSTER\r\n$5\r\nSLOTS\r\n";
+
+/// What a call asks of nodes.
+#[derive(Drop)]
+struct Errand {
+    rule: ReplyRule,
+    parts: Vec<Part>,
+    records: Vec<PartRecord>,
+}
+
+impl Session {
+    ghost use Rattle.std.specs.Prelude.{List, OnErr};
+    ghost use Rattle.session_core.specs.Part.{PartState};
+    ghost use Rattle.session_core.specs.State.{Happens, Begin};
+    ghost use Rattle.session_core.specs.declared.link.Standing.TheVariants.{Open};
+    ghost use Rattle.session_core.specs.Channel.{Channel};
+    ghost use Rattle.session_core.specs.State.{IsLink};
+    ghost use Rattle.redis_session.specs.Leads.{Leads};
+
+    /// Begins a call. Its parts are to be asked in this step.
+    pub(crate) fn begin_call(
+        &mut self,
+        alloc: Global,
+        caller: u64,
+        request: &[u8],
+        deadline: u64,
+    ) -> Result<u64, CallRefusal>
+        ensures begun { IfOk result (λ call. (parts : List PartState)
+            × Happens self.old (Begin call caller parts) self.new) }
+        ensures refused { OnErr result (self.new ≡ self.old) }
+    {
+        if !self.has_room(request.len()) {
+            return Err(CallRefusal::Limit);
+        }
+        let errand = self.errand(alloc, request)?;
+        let count = errand.parts.len();
+        let record = CallRecord::new(caller, errand.rule, deadline, request.len(), errand.records);
+        self.schedule.add_call(record)?;
+        match self.machine.begin(alloc, caller, errand.parts) {
+            Ok(call) => {
+                self.schedule.note_begun(count);
+                Ok(call)
+            }
+            Err(_) => {
+                self.schedule.take_back();
+                Err(CallRefusal::Memory)
+            }
+        }
+    }
+
+    /// Whether a call may be kept besides those that are kept, if its request has so many bytes.
+    fn has_room(&self, bytes: usize) -> bool {
+        self.schedule.call_count() < self.settings.most_calls
+            && self.schedule.byte_count().saturating_add(bytes) <= self.settings.most_bytes
+    }
+
+    /// What a request asks of nodes.
+    fn errand(&mut self, alloc: Global, request: &[u8]) -> Result<Errand, CallRefusal>
+        ensures parts { IfOk result (λ errand. CanBegin errand.parts.items) }
+        ensures state { self.new ≡ self.old }
+    {
+        let names = Names {
+            read_only: &self.settings.read_only,
+            registry: &self.settings.registry,
+        };
+        let plan = CallPlan::new(alloc, request, names, &self.settings.added)?;
+        let may_refuse = plan.may_refuse;
+        match plan.parts {
+            CallParts::One(order) => Ok(self.one_part(alloc, request, order, may_refuse)?),
+            CallParts::Split(slots) => Ok(self.slot_parts(alloc, request, slots, may_refuse)?),
+            CallParts::Several(group, policy, order) => {
+                let rule = ReplyRule::Several(policy);
+                let targets = self.group(alloc, group)?;
+                Ok(self.several_parts(alloc, request, rule, targets, order, may_refuse)?)
+            }
+        }
+    }
+
+    /// The request as it came.
+    fn one_part(
+        &self,
+        alloc: Global,
+        request: &[u8],
+        order: PartOrder,
+        may_refuse: bool,
+    ) -> Result<Errand, AllocError>
+        requires { 0 < length request.now }
+        ensures { IfOk result (λ errand. CanBegin errand.parts.items) }
+    {
+        let mut errand = Errand::new(alloc, ReplyRule::One);
+        let target = match order {
+            PartOrder::OfSlot(slot) => Target::Slot(slot),
+            PartOrder::Whole | PartOrder::Free => Target::Any,
+        };
+        errand.push(self.part(alloc, request, order, may_refuse)?, target)?;
+        Ok(errand)
+    }
+
+    /// The part of each slot.
+    fn slot_parts(
+        &self,
+        alloc: Global,
+        request: &[u8],
+        slots: Vec<SlotPart>,
+        may_refuse: bool,
+    ) -> Result<Errand, AllocError>
+        requires { HaveOwnSlots slots.items }
+        ensures { IfOk result (λ errand. CanBegin errand.parts.items) }
+    {
+        let retries = self.settings.retries;
+        let mut errand = Errand::new(alloc, ReplyRule::Split(request.to_vec(alloc)?));
+        for slot_part in slots {
+            let slot = slot_part.slot;
+            let order = PartOrder::OfSlot(slot);
+            let part = Part::new(slot_part.request, order, may_refuse, retries);
+            errand.push(part, Target::Slot(slot))?;
+        }
+        Ok(errand)
+    }
+
+    /// The request as it came for each of the nodes. If there are none, it waits for one.
+    fn several_parts(
+        &self,
+        alloc: Global,
+        request: &[u8],
+        rule: ReplyRule,
+        targets: Vec<Target>,
+        order: PartOrder,
+        may_refuse: bool,
+    ) -> Result<Errand, AllocError>
+        requires some { 0 < length request.now }
+        requires order { has_slot order ≡ false }
+        ensures { IfOk result (λ errand. CanBegin errand.parts.items) }
+    {
+        let mut errand = Errand::new(alloc, rule);
+        if targets.is_empty() {
+            let part = self.part(alloc, request, order, may_refuse)?;
+            errand.push(part, Target::Nobody)?;
+            return Ok(errand);
+        }
+        for target in targets {
+            let part = self.part(alloc, request, order, may_refuse)?;
+            errand.push(part, target)?;
+        }
+        Ok(errand)
+    }
+
+    /// A part that asks the request as it came.
+    fn part(
+        &self,
+        alloc: Global,
+        request: &[u8],
+        order: PartOrder,
+        may_refuse: bool,
+    ) -> Result<Part, AllocError>
+        ensures { IfOk result (IsNewPart request.now order) }
+    {
+        let request = request.to_vec(alloc)?;
+        Ok(Part::new(request, order, may_refuse, self.settings.retries))
+    }
+
+    /// The nodes of a group, by the map. Those that are not known are added.
+    fn group(&mut self, alloc: Global, group: NodeGroup) -> Result<Vec<Target>, AllocError>
+        ensures { self.new ≡ self.old }
+    {
+        let mut targets = Vec::new(alloc);
+        for address in self.table.group(alloc, group)? {
+            let target = match number_of(&mut self.nodes, &mut self.schedule, address)? {
+                Some(node) => {
+                    self.nodes.note_in_map(node);
+                    Target::Node(node)
+                }
+                None => Target::Nobody,
+            };
+            targets.push(target)?;
+        }
+        Ok(targets)
+    }
+
+    /// Asks the parts that are to be asked in this step.
+    pub(crate) fn ask_ready(&mut self, alloc: Global) -> Result<(), AllocError>
+        ensures { Leads self.old self.new }
+    {
+        for _ in 0..self.schedule.most_steps() {
+            let Some(seat) = self.schedule.pop_ready() else {
+                return Ok(());
+            };
+            if let Err(error) = self.place(alloc, seat) {
+                self.schedule.push_front(seat, Room::Ready);
+                return Err(error);
+            }
+        }
+        Ok(())
+    }
+
+    /// Asks a part, or has it wait for what it needs. If its node left the map, it ends.
+    fn place(&mut self, alloc: Global, seat: Seat) -> Result<(), AllocError>
+        ensures { Leads self.old self.new }
+    {
+        if !self.waits(seat) {
+            return Ok(());
+        }
+        if self.machine.is_held_back(seat.call, seat.part) {
+            self.schedule.push_back(seat, Room::Barred);
+            return Ok(());
+        }
+        let Some(target) = self.schedule.target(seat) else {
+            return Ok(());
+        };
+        if self.has_left(target) {
+            self.end_without_node(seat);
+            self.note_done(alloc, seat);
+            return Ok(());
+        }
+        self.place_at(seat, target)
+    }
+
+    /// Asks a part where it is to be asked, or has it wait for a node or for a link to it.
+    fn place_at(&mut self, seat: Seat, target: Target) -> Result<(), AllocError>
+        ensures { Leads self.old self.new }
+    {
+        let Some(node) = self.node_for(target)? else {
+            self.schedule.push_back(seat, Room::Unserved);
+            self.want_map();
+            return Ok(());
+        };
+        let NodeLink::Ready(link) = self.nodes.link(node) else {
+            self.schedule.push_back(seat, Room::Node(node));
+            self.nodes.want(node);
+            return Ok(());
+        };
+        self.ask_on(seat, link, target)
+    }
+
+    /// Asks a part on a link, if the order of its caller allows it now.
+    fn ask_on(&mut self, seat: Seat, link: usize, target: Target) -> Result<(), AllocError>
+        ensures { Leads self.old self.new }
+    {
+        let Some(Standing::Open) = self.machine.standing(link) else {
+            return Ok(());
+        };
+        if self.ask_at(seat, link, target)? {
+            self.nodes.note_asked(link, self.now);
+            self.release_next(seat);
+        }
+        Ok(())
+    }
+
+    /// Asks a part on a link that is open, if the order of its caller allows it now. Returns whether it did.
+    fn ask_at(&mut self, seat: Seat, link: usize, target: Target) -> Result<bool, AllocError>
+        requires { (c : Channel) × IsLink self.old link c × (c.standing ≡ Open) }
+        ensures { Leads self.old self.new }
+    {
+        match target {
+            Target::Asking(_) => self.machine.ask_asking(link, seat.call, seat.part),
+            Target::Slot(_) | Target::Node(_) | Target::Any | Target::Nobody => {
+                self.machine.ask(link, seat.call, seat.part)
+            }
+        }
+    }
+
+    /// Has the next part of the slot and caller of a part asked in this step, if the order allows it.
+    pub(crate) fn release_next(&mut self, seat: Seat)
+        ensures { self.new ≡ self.old }
+    {
+        let Some(caller) = self.caller_of(seat.call) else {
+            return;
+        };
+        let Some(part) = self.machine.part(seat.call, seat.part) else {
+            return;
+        };
+        let PartOrder::OfSlot(slot) = part.order() else {
+            return;
+        };
+        if let Some(next) = self.machine.next_part(caller, slot) {
+            self.schedule.push_back(next, Room::Ready);
+        }
+    }
+
+    /// Has the parts of a caller asked in this step that wait for earlier calls no more.
+    pub(crate) fn release_barred(&mut self, caller: u64)
+        ensures { self.new ≡ self.old }
+    {
+        for _ in 0..self.schedule.most_steps() {
+            let Some(seat) = self.schedule.first_barred(caller) else {
+                return;
+            };
+            if self.machine.is_held_back(seat.call, seat.part) {
+                return;
+            }
+            self.schedule.remove(seat);
+            self.schedule.push_back(seat, Room::Ready);
+        }
+    }
+
+    /// Whether a part waits to be asked.
+    pub(crate) fn waits(&self, seat: Seat) -> bool {
+        match self.machine.part(seat.call, seat.part) {
+            Some(part) => part.is_waiting(),
+            None => false,
+        }
+    }
+
+    /// The caller of a call.
+    pub(crate) fn caller_of(&self, call: u64) -> Option<u64> {
+        Some(self.schedule.call(call)?.caller())
+    }
+
+    /// The node at which a part is asked.
+    fn node_for(&mut self, target: Target) -> Result<Option<usize>, AllocError>
+        ensures { self.new ≡ self.old }
+    {
+        match target {
+            Target::Slot(slot) => self.node_of_slot(slot),
+            Target::Asking(node) | Target::Node(node) => Ok(Some(node)),
+            Target::Any => Ok(self.nodes.any()),
+            Target::Nobody => Ok(None),
+        }
+    }
+
+    /// Whether a part is to be asked at a node that left the map.
+    fn has_left(&self, target: Target) -> bool {
+        match target {
+            Target::Node(node) => !self.nodes.is_in_map(node),
+            Target::Slot(_) | Target::Asking(_) | Target::Any | Target::Nobody => false,
+        }
+    }
+
+    /// The primary of a slot.
+    fn node_of_slot(&mut self, slot: u16) -> Result<Option<usize>, AllocError>
+        ensures { self.new ≡ self.old }
+    {
+        let Some(address) = self.table.node(slot) else {
+            return Ok(None);
+        };
+        number_of(&mut self.nodes, &mut self.schedule, address)
+    }
+
+    /// Asks for the map on a link that is ready, if the map is wanted.
+    pub(crate) fn ask_map(&mut self, alloc: Global) -> Result<(), AllocError>
+        ensures { Leads self.old self.new }
+    {
+        if !self.is_map_wanted || self.is_map_asked || self.now < self.map_time {
+            return Ok(());
+        }
+        let Some(link) = self.nodes.next_ready() else {
+            self.nodes.want_next();
+            return Ok(());
+        };
+        let Some(Standing::Open) = self.machine.standing(link) else {
+            return Ok(());
+        };
+        self.machine
+            .ask_map(link, self.table.count(), CLUSTER_SLOTS)?;
+        self.nodes.note_asked(link, self.now);
+        self.is_map_asked = true;
+        self.is_map_wanted = false;
+        Ok(())
+    }
+
+    /// Begins a link to a node: with its login, or ready at once.
+    pub(crate) fn begin_link(&mut self, node: usize, link: usize) -> Result<(), AllocError>
+        ensures { Leads self.old self.new }
+    {
+        self.nodes.make_room(link)?;
+        if self.settings.login.is_empty() {
+            self.nodes.set_link(node, NodeLink::Ready(link));
+            self.schedule.release_node(node);
+            return Ok(());
+        }
+        self.ask_login(link)?;
+        self.nodes.set_link(node, NodeLink::Opening(link));
+        Ok(())
+    }
+
+    /// Asks the login of a link that is open.
+    fn ask_login(&mut self, link: usize) -> Result<(), AllocError>
+        ensures { Leads self.old self.new }
+    {
+        if self.settings.login.is_empty() {
+            return Ok(());
+        }
+        let Some(Standing::Open) = self.machine.standing(link) else {
+            return Ok(());
+        };
+        self.machine.ask_login(link, &self.settings.login)?;
+        self.nodes.note_asked(link, self.now);
+        Ok(())
+    }
+}
+
+impl Errand {
+    /// Nothing is asked yet.
+    fn new(alloc: Global, rule: ReplyRule) -> Errand
+        ensures { result.parts.items ≡ [] }
+    {
+        Errand {
+            rule,
+            parts: Vec::new(alloc),
+            records: Vec::new(alloc),
+        }
+    }
+
+    /// Adds a part and where it is asked.
+    fn push(&mut self, part: Part, target: Target) -> Result<(), AllocError>
+        ensures { OnOk result (self.new.parts.items ≡ self.old.parts.items ++ part ∷ []) }
+    {
+        self.parts.push(part)?;
+        self.records.push(PartRecord::new(target))?;
+        Ok(())
+    }
+}

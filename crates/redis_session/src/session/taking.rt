@@ -1,0 +1,527 @@
+//! What becomes of the parts of calls: replies, links that end, and calls whose time is over.
+
+use crate::nodes::NodeLink;
+use crate::schedule::{Room, Target};
+use crate::session::{Session, number_of};
+use redis_routing::{NodeGroup, Redirect};
+use session_core::{PartOrder, Seat, Standing, Ticket};
+use session_machine::{Phase, Took};
+use std::alloc::{AllocError, Global};
+
+/// How many redirects a part may get before it pauses after each.
+const MOST_REDIRECTS_AT_ONCE: u32 = 4;
+
+impl Session {
+    ghost use Rattle.std.specs.Prelude.{◌≡◌, ◌⊎◌, OnOk, OnErr};
+    ghost use Rattle.session_core.specs.declared.link.Standing.TheVariants.{Open};
+    ghost use Rattle.session_core.specs.Channel.{Channel};
+    ghost use Rattle.session_core.specs.LinkEvents as events;
+    ghost use Rattle.session_core.specs.State.{Happens, On, IsLink};
+    ghost use Rattle.redis_session.specs.Leads.{Leads, Ends, IsConnected};
+
+    /// Takes the replies that came on a link, and notes whether it owes more.
+    pub(crate) fn take_all(&mut self, alloc: Global, link: usize) -> Result<(), AllocError>
+        ensures { Leads self.old self.new }
+    {
+        let taken = self.take_replies(alloc, link);
+        let owes = self.machine.count_waits(link) > 0;
+        self.nodes.note_heard(link, owes, self.now);
+        taken
+    }
+
+    /// Takes the replies that came on a link.
+    fn take_replies(&mut self, alloc: Global, link: usize) -> Result<(), AllocError>
+        ensures { Leads self.old self.new }
+    {
+        for _ in 0..self.machine.count_waits(link).saturating_add(1) {
+            let Some(Standing::Open) = self.machine.standing(link) else {
+                return Ok(());
+            };
+            let took = self.machine.take(alloc, link)?;
+            if matches!(took, Took::Nothing) {
+                return Ok(());
+            }
+            self.note_took(alloc, link, took)?;
+        }
+        Ok(())
+    }
+
+    /// Notes what was taken on a link.
+    fn note_took(&mut self, alloc: Global, link: usize, took: Took) -> Result<(), AllocError>
+        ensures { Leads self.old self.new }
+    {
+        match took {
+            Took::Nothing | Took::Asking(_) => Ok(()),
+            Took::Kept(seat) => self.note_kept(alloc, link, seat),
+            Took::Back(seat, reply) => self.note_back(alloc, link, seat, &reply),
+            Took::Login(reply) => {
+                self.note_login(link, &reply);
+                Ok(())
+            }
+            Took::Map(count, reply) => self.note_map(alloc, link, count, &reply),
+            Took::Broken(_) => {
+                self.break_link(link);
+                Ok(())
+            }
+        }
+    }
+
+    /// Notes the reply to the login of a link.
+    fn note_login(&mut self, link: usize, reply: &[u8])
+        ensures { self.new ≡ self.old }
+    {
+        if reply.starts_with(b"-") {
+            self.break_link(link);
+            return;
+        }
+        let Some(node) = self.nodes.opening_node(link) else {
+            return;
+        };
+        self.nodes.set_link(node, NodeLink::Ready(link));
+        self.schedule.release_node(node);
+    }
+
+    /// Notes the reply to a `CLUSTER SLOTS` that was asked after `count` `MOVED` were learned.
+    fn note_map(
+        &mut self,
+        alloc: Global,
+        link: usize,
+        count: u64,
+        reply: &[u8],
+    ) -> Result<(), AllocError>
+        ensures { Leads self.old self.new }
+    {
+        self.is_map_asked = false;
+        self.map_time = self.pause_end();
+        let filled = match self.nodes.address_of_link(link) {
+            Some(address) => self.table.fill(alloc, reply, address.host(), count),
+            None => Ok(false),
+        };
+        match filled {
+            Ok(true) => {
+                self.schedule.release_unserved();
+                self.schedule.release_nodes();
+                self.note_nodes(alloc)
+            }
+            Ok(false) => {
+                self.map_faults = self.map_faults.saturating_add(1);
+                self.want_map();
+                Ok(())
+            }
+            Err(error) => {
+                self.want_map();
+                Err(error)
+            }
+        }
+    }
+
+    /// Notes which nodes the map has. Parts for other named nodes end when they are to be asked next.
+    fn note_nodes(&mut self, alloc: Global) -> Result<(), AllocError>
+        ensures { self.new ≡ self.old }
+    {
+        match self.table.group(alloc, NodeGroup::AllNodes) {
+            Ok(addresses) => {
+                self.nodes.note_map(&addresses);
+                Ok(())
+            }
+            Err(error) => {
+                self.is_map_wanted = true;
+                Err(error)
+            }
+        }
+    }
+
+    /// Notes that a part keeps its reply.
+    fn note_kept(&mut self, alloc: Global, link: usize, seat: Seat) -> Result<(), AllocError>
+        ensures { Leads self.old self.new }
+    {
+        let told = match self.machine.part(seat.call, seat.part) {
+            Some(part) => match part.phase() {
+                Phase::Answered(reply) => {
+                    if wants_map(reply) {
+                        self.is_map_wanted = true;
+                    }
+                    None
+                }
+                Phase::Refused(reply) => Some(redirect_in(alloc, reply, self.host_of(link))),
+                _ => None,
+            },
+            None => None,
+        };
+        self.note_done(alloc, seat);
+        if let Some(told) = told {
+            self.learn(seat, told)?;
+        }
+        Ok(())
+    }
+
+    /// Notes a refusal of a part, which waits again or is wanted by nobody.
+    fn note_back(
+        &mut self,
+        alloc: Global,
+        link: usize,
+        seat: Seat,
+        reply: &[u8],
+    ) -> Result<(), AllocError>
+        ensures { Leads self.old self.new }
+    {
+        let told = redirect_in(alloc, reply, self.host_of(link));
+        let learned = self.learn(seat, told);
+        self.end_if_late(seat);
+        if !self.waits(seat) {
+            self.note_done(alloc, seat);
+            return match learned {
+                Ok(_) => Ok(()),
+                Err(error) => Err(error),
+            };
+        }
+        match learned {
+            Ok(Some(target)) => self.follow(seat, target),
+            Ok(None) => self.wait_again(seat, reply),
+            Err(error) => {
+                self.schedule.push_back(seat, Room::Ready);
+                return Err(error);
+            }
+        }
+        self.release_next(seat);
+        Ok(())
+    }
+
+    /// Has a redirected part asked at its new target: in this step, or after a pause if it got many redirects.
+    fn follow(&mut self, seat: Seat, target: Target)
+        ensures { self.new ≡ self.old }
+    {
+        if self.schedule.redirect(seat, target) <= MOST_REDIRECTS_AT_ONCE {
+            self.schedule.push_back(seat, Room::Ready);
+            return;
+        }
+        let end = self.pause_end();
+        self.schedule.pause(seat, end);
+    }
+
+    /// Lets a part that was refused wait: for the map if its redirect names no node, or else for a pause.
+    fn wait_again(&mut self, seat: Seat, refusal: &[u8])
+        ensures { self.new ≡ self.old }
+    {
+        if refusal.starts_with(b"-MOVED ") || refusal.starts_with(b"-ASK ") {
+            self.schedule.push_back(seat, Room::Unserved);
+            return;
+        }
+        let end = self.pause_end();
+        self.schedule.pause(seat, end);
+    }
+
+    /// Learns what a redirect says. Returns where its part is asked next, if that is known.
+    fn learn(
+        &mut self,
+        seat: Seat,
+        told: Result<Option<Redirect>, AllocError>,
+    ) -> Result<Option<Target>, AllocError>
+        ensures { self.new ≡ self.old }
+    {
+        let Some(redirect) = told? else {
+            self.want_map();
+            return Ok(None);
+        };
+        let Some(slot) = self.slot_of(seat) else {
+            return Ok(None);
+        };
+        match redirect {
+            Redirect::Ask(address) => match number_of(
+                &mut self.nodes,
+                &mut self.schedule,
+                &address,
+            )? {
+                Some(node) => Ok(Some(Target::Asking(node))),
+                None => Ok(None),
+            },
+            Redirect::Moved(address) => {
+                self.want_map();
+                if number_of(&mut self.nodes, &mut self.schedule, &address)?.is_none() {
+                    return Ok(None);
+                }
+                self.table.note_moved(slot, address)?;
+                Ok(Some(Target::Slot(slot)))
+            }
+        }
+    }
+
+    /// The slot of a part, if it has one.
+    pub(crate) fn slot_of(&self, seat: Seat) -> Option<u16> {
+        match self.machine.part(seat.call, seat.part)?.order() {
+            PartOrder::OfSlot(slot) => Some(slot),
+            PartOrder::Whole | PartOrder::Free => None,
+        }
+    }
+
+    /// The host of the node of a link.
+    fn host_of(&self, link: usize) -> Option<&str> {
+        Some(self.nodes.address_of_link(link)?.host())
+    }
+
+    /// Notes that a part is done: those that waited for it may be asked, and the reply may be there.
+    pub(crate) fn note_done(&mut self, alloc: Global, seat: Seat)
+        ensures { Leads self.old self.new }
+    {
+        let Some(caller) = self.caller_of(seat.call) else {
+            return;
+        };
+        self.end_overtaken(caller, seat);
+        self.release_next(seat);
+        self.release_barred(caller);
+        self.schedule.note_due(caller);
+        self.leave_calls(alloc, caller);
+    }
+
+    /// Ends the parts of a caller that a part overtook which is done.
+    fn end_overtaken(&mut self, caller: u64, seat: Seat)
+        ensures { Leads self.old self.new }
+    {
+        let Some(slot) = self.slot_of(seat) else {
+            return;
+        };
+        for _ in 0..self.schedule.most_steps() {
+            let Some(overtaken) = self.machine.end_overtaken(caller, slot) else {
+                return;
+            };
+            self.schedule.remove(overtaken);
+        }
+    }
+
+    /// Notes that a link is to be closed. Nothing is asked on it any more.
+    pub(crate) fn break_link(&mut self, link: usize)
+        ensures { self.new ≡ self.old }
+    {
+        self.fail_opening(link);
+        self.nodes.note_closing(link);
+    }
+
+    /// Notes that the node of a link could not be reached, if the login of the link was not answered.
+    fn fail_opening(&mut self, link: usize)
+        ensures { self.new ≡ self.old }
+    {
+        if let Some(node) = self.nodes.opening_node(link) {
+            self.unreachable(node);
+        }
+    }
+
+    /// Notes bytes that came on a link that is open.
+    pub(crate) fn hear(&mut self, link: usize, bytes: &[u8]) -> Result<(), AllocError>
+        requires { (c : Channel) × IsLink self.old link c × (c.standing ≡ Open) }
+        ensures ok { OnOk result (Happens self.old (On link (events.Hear bytes.now)) self.new) }
+        ensures err { OnErr result (Happens self.old (On link events.Miss) self.new) }
+    {
+        match self.machine.hear(link, bytes) {
+            Ok(()) => Ok(()),
+            Err(error) => {
+                self.nodes.note_closing(link);
+                Err(error)
+            }
+        }
+    }
+
+    /// Ends a link: what was asked there and is not answered is lost, or is asked elsewhere if no byte of it was
+    /// written.
+    pub(crate) fn end_link(&mut self, alloc: Global, link: usize)
+        ensures { Ends link self.old self.new }
+    {
+        self.end_connection(link);
+        self.fail_opening(link);
+        let node = self.nodes.drop_link(link);
+        self.want_map();
+        self.lose_all(alloc, link);
+        self.want_again(node);
+    }
+
+    /// Ends the connection of a link, if it has not ended.
+    fn end_connection(&mut self, link: usize)
+        ensures ended { IsConnected self.old link → Happens self.old (On link events.End) self.new }
+        ensures not { (IsConnected self.old link → ⊥) → self.new ≡ self.old }
+    {
+        let (Some(Standing::Open) | Some(Standing::Broken)) = self.machine.standing(link) else {
+            return;
+        };
+        self.machine.end(link);
+    }
+
+    /// Gives up what waits on a link that ended, and frees its number.
+    fn lose_all(&mut self, alloc: Global, link: usize)
+        ensures { Leads self.old self.new }
+    {
+        for _ in 0..self.machine.count_waits(link) {
+            let Some(Standing::Ended) = self.machine.standing(link) else {
+                return;
+            };
+            let Some((ticket, _)) = self.machine.lose(link) else {
+                return;
+            };
+            self.note_lost(alloc, ticket);
+        }
+        self.machine.forget(link);
+    }
+
+    /// Notes that a node needs a link again, if parts wait for it.
+    fn want_again(&mut self, node: Option<usize>)
+        ensures { self.new ≡ self.old }
+    {
+        let Some(number) = node else {
+            return;
+        };
+        if self.schedule.first_at(number).is_some() {
+            self.nodes.want(number);
+        }
+    }
+
+    /// Notes that the link ended on which this was asked.
+    fn note_lost(&mut self, alloc: Global, ticket: Ticket)
+        ensures { Leads self.old self.new }
+    {
+        match ticket {
+            Ticket::Login | Ticket::Asking => {}
+            Ticket::Map(_) => {
+                self.is_map_asked = false;
+                self.map_time = self.pause_end();
+            }
+            Ticket::Part(call, part) => {
+                let seat = Seat { call, part };
+                self.end_if_late(seat);
+                if self.waits(seat) {
+                    self.schedule.push_back(seat, Room::Ready);
+                    self.release_next(seat);
+                } else {
+                    self.note_done(alloc, seat);
+                }
+            }
+        }
+    }
+
+    /// Ends the calls whose time is over.
+    pub(crate) fn end_late(&mut self, alloc: Global)
+        ensures { Leads self.old self.new }
+    {
+        for _ in 0..self.schedule.most_calls() {
+            let Some((deadline, call)) = self.schedule.first_deadline() else {
+                return;
+            };
+            if deadline > self.now {
+                return;
+            }
+            self.schedule.note_late(call);
+            self.end_waiting(call);
+            self.note_over(alloc, call);
+        }
+    }
+
+    /// Ends the parts of a call that wait.
+    fn end_waiting(&mut self, call: u64)
+        ensures { Leads self.old self.new }
+    {
+        let Some(record) = self.schedule.call(call) else {
+            return;
+        };
+        for part in 0..record.part_count() {
+            self.end_part(Seat { call, part });
+        }
+    }
+
+    /// Ends a part that waits again, if the time of its call is over.
+    fn end_if_late(&mut self, seat: Seat)
+        ensures { Leads self.old self.new }
+    {
+        if self.schedule.is_late(seat.call) {
+            self.end_part(seat);
+        }
+    }
+
+    /// Ends a part whose time is over, if it waits.
+    fn end_part(&mut self, seat: Seat)
+        ensures { Leads self.old self.new }
+    {
+        let is_unserved = self.schedule.is_unserved(seat);
+        self.schedule.remove(seat);
+        if is_unserved {
+            self.end_without_node(seat);
+            return;
+        }
+        self.machine.end_late(seat.call, seat.part);
+    }
+
+    /// Ends a part for which there is no node, if it waits.
+    pub(crate) fn end_without_node(&mut self, seat: Seat)
+        ensures { Leads self.old self.new }
+    {
+        self.machine.end_without_node(seat.call, seat.part);
+    }
+
+    /// Notes that no part of a call waits any more.
+    pub(crate) fn note_over(&mut self, alloc: Global, call: u64)
+        ensures { Leads self.old self.new }
+    {
+        let Some(record) = self.schedule.call(call) else {
+            return;
+        };
+        let count = record.part_count();
+        for part in 0..count {
+            self.note_done(alloc, Seat { call, part });
+        }
+    }
+
+    /// Forgets the first calls of a caller that are owed no reply and whose parts are done.
+    pub(crate) fn leave_calls(&mut self, alloc: Global, caller: u64)
+        ensures { Leads self.old self.new }
+    {
+        for _ in 0..self.schedule.most_calls() {
+            let Some(call) = self.schedule.first_call(caller) else {
+                return;
+            };
+            if self.reply.is_of(call) {
+                return;
+            }
+            if !self.machine.leave(alloc, call) {
+                return;
+            }
+            self.schedule.note_left(caller);
+            self.trim();
+        }
+    }
+
+    /// Forgets the places of the first calls, if these left.
+    fn trim(&mut self)
+        ensures { Leads self.old self.new }
+    {
+        for _ in 0..self.schedule.most_calls() {
+            if !self.machine.trim() {
+                return;
+            }
+            self.schedule.trim();
+        }
+    }
+}
+
+/// Whether an answer says that the map changed.
+fn wants_map(reply: &[u8]) -> bool {
+    reply.starts_with(b"-MOVED ")
+        || reply.starts_with(b"-READONLY")
+        || reply.starts_with(b"-CLUSTERDOWN")
+}
+
+/// The redirect that a refusal is, by the host of the node that refused.
+fn redirect_in(
+    alloc: Global,
+    reply: &[u8],
+    host: Option<&str>,
+) -> Result<Option<Redirect>, AllocError> {
+    let Some(rest) = reply.strip_prefix(b"-") else {
+        return Ok(None);
+    };
+    let Some(text) = rest.strip_suffix(b"\r\n") else {
+        return Ok(None);
+    };
+    let Ok(text) = str::from_utf8(text) else {
+        return Ok(None);
+    };
+    match Redirect::from_error_text(alloc, text, host.unwrap_or(""))? {
+        Some((_, redirect)) => Ok(Some(redirect)),
+        None => Ok(None),
+    }
+}

@@ -1,4 +1,0 @@
-mod AddedRows
-mod OwnSlots
-mod PartLists
-mod TableNames

@@ -1,7 +1,0 @@
-use Rattle.std.proofs.Common.{◌≡◌, drop}
-use Rattle.session_commands.specs.SplitReplies.{first_error}
-use Rattle.session_commands.proofs.reply.first_error.Given as goal
-
--- no error stands before
-abbrev pub invariant-loop-answer : goal.invariant-loop-answer
-invariant-loop-answer l = first_error (drop l.answer-index l.answers) ≡ first_error l.answers

@@ -1,7 +1,0 @@
-use Rattle.std.proofs.Common.{◌≡◌, ◌++◌, drop}
-use Rattle.session_commands.specs.SplitReplies.{joined}
-use Rattle.session_commands.proofs.reply.joined.Given as goal
-
--- the rest follows
-abbrev pub invariant-loop-answer : goal.invariant-loop-answer
-invariant-loop-answer l = l.bytes.items ++ joined (drop l.answer-index l.answers) ≡ joined l.answers

@@ -1,0 +1,205 @@
+-- What is kept of each caller after the entry of one of them changed.
+use Rattle.std.proofs.Common.{inl, inr, false, List, [], ◌≡◌, ◌≢◌, ℕ, Result, Ok, Err, OnErr, Option, None, Some, refl, sym, ap, ◌∙◌, subst, arith}
+use Rattle.std.specs.Option.{unwrap_or, option_map, IsSome}
+use Rattle.std.specs.Ordering.{nat_cmp}
+use Rattle.std.specs.Map.{lookup}
+use Rattle.std.specs.BTreeMap.{BTreeMap, get, is_at, UpdatesBy, WritesThrough}
+use Rattle.std.proofs.lemmas.Bool.{cases_eq}
+use Rattle.std.proofs.lemmas.Bool.Decides.{nat_tests}
+use Rattle.session_core.specs.declared.ordered_part.OrderedPart.{OrderedPart}
+use Rattle.session_core.specs.Order.{Order, no_order, ordered_at, IsTrimmed}
+use Rattle.session_core.specs.Replies.{Replies}
+use Rattle.session_core.proofs.Places.{none_at}
+use Rattle.session_machine.specs.declared.caller.Caller.{Caller}
+use Rattle.session_machine.specs.declared.callers.Callers.{Callers}
+use Rattle.session_machine.specs.Caller.{no_calls, KeepsCalls}
+use Rattle.session_machine.specs.Callers.{caller_of, order_of, replies_of, last_of, OthersKept, OnlyOrder, OnlyReplies, CallsKept, IsForgotten}
+
+order_is : (caller : ℕ) (callers : Callers) → order_of caller callers ≡ (caller_of caller callers).order
+unfolding order_of
+order_is caller callers = refl
+
+replies_is : (caller : ℕ) (callers : Callers) → replies_of caller callers ≡ (caller_of caller callers).replies
+unfolding replies_of
+replies_is caller callers = refl
+
+last_is : (caller : ℕ) (callers : Callers) → last_of caller callers ≡ option_map (λ (c : Caller). c.last) (get nat_cmp callers.callers caller)
+unfolding last_of
+last_is caller callers = refl
+
+pub last_by : (caller : ℕ) (callers : Callers) (o : Option Caller) → o ≡ get nat_cmp callers.callers caller → last_of caller callers ≡ option_map (λ (c : Caller). c.last) o
+last_by caller callers o e = last_is caller callers ∙ ap (option_map (λ (c : Caller). c.last)) (sym e)
+
+pub order_by : (caller : ℕ) (callers : Callers) (x : Caller) → caller_of caller callers ≡ x → order_of caller callers ≡ x.order
+order_by caller callers x e = order_is caller callers ∙ ap (λ (c : Caller). c.order) e
+
+pub replies_by : (caller : ℕ) (callers : Callers) (x : Caller) → caller_of caller callers ≡ x → replies_of caller callers ≡ x.replies
+replies_by caller callers x e = replies_is caller callers ∙ ap (λ (c : Caller). c.replies) e
+
+-- a caller that the map has, or lacks
+pub there : (caller : ℕ) (callers : Callers) (x : Caller) → Some x ≡ get nat_cmp callers.callers caller → caller_of caller callers ≡ x
+there caller callers x e = ap (λ o. unwrap_or o no_calls) (sym e)
+
+pub missing : (caller : ℕ) (callers : Callers) → None ≡ get nat_cmp callers.callers caller → caller_of caller callers ≡ no_calls
+missing caller callers e = ap (λ o. unwrap_or o no_calls) (sym e)
+
+pub empty : (caller : ℕ) (callers : Callers) → callers.callers.entries ≡ [] → caller_of caller callers ≡ no_calls
+empty caller callers e = ap (λ (es : List (ℕ × Caller)). unwrap_or (lookup (is_at (nat_cmp caller)) es) no_calls) e
+
+pub unknown : (caller : ℕ) (callers : Callers) → callers.callers.entries ≡ [] → last_of caller callers ≡ None
+unknown caller callers e = last_is caller callers ∙ ap (λ (es : List (ℕ × Caller)). option_map (λ (c : Caller). c.last) (lookup (is_at (nat_cmp caller)) es)) e
+
+-- no part stands in an order without parts
+nothing_at : (place : ℕ) (order : Order) → order ≡ no_order → ordered_at place order ≡ None
+nothing_at place order e = ap (ordered_at place) e ∙ none_at {X = OrderedPart} place 0 [] refl
+
+pub none_there : (place : ℕ) (order : Order) (p : OrderedPart) → order ≡ no_order → ordered_at place order ≡ Some p → ⊥
+none_there place order p e at = let n = nothing_at place order e in let q : ◌≡◌ {A = Option OrderedPart} None (Some p) = sym n ∙ at in cc
+
+pub no_front : (order : Order) → order ≡ no_order → IsTrimmed order
+no_front order e = λ p at. absurd (none_there order.first order p e at)
+
+other_key : (caller other : ℕ) → other ≢ caller → is_at (nat_cmp caller) other ≡ false
+other_key caller other ne = grind (arith, nat_tests)
+
+same_order : (caller : ℕ) (old new : Callers) → caller_of caller new ≡ caller_of caller old → order_of caller new ≡ order_of caller old
+same_order caller old new e = order_by caller new (caller_of caller old) e ∙ sym (order_is caller old)
+
+same_replies : (caller : ℕ) (old new : Callers) → caller_of caller new ≡ caller_of caller old → replies_of caller new ≡ replies_of caller old
+same_replies caller old new e = replies_by caller new (caller_of caller old) e ∙ sym (replies_is caller old)
+
+-- the map has another entry for one caller, or none
+pub others_kept : (caller : ℕ) (w : Option Caller) (old new : Callers) → UpdatesBy nat_cmp (nat_cmp caller) old.callers new.callers w → OthersKept caller old new
+others_kept caller w old new u =
+    let same : (other : ℕ) → other ≢ caller → caller_of other new ≡ caller_of other old = λ other ne. ap (λ o. unwrap_or o no_calls) (u.2 other (other_key caller other ne)) in
+    record {
+      order = λ other ne. same_order other old new (same other ne);
+      replies = λ other ne. same_replies other old new (same other ne);
+      last = λ other ne. last_by other new (get nat_cmp old.callers other) (sym (u.2 other (other_key caller other ne))) ∙ sym (last_is other old);
+    }
+
+pub now_is : (caller : ℕ) (w : Option Caller) (old new : Callers) → UpdatesBy nat_cmp (nat_cmp caller) old.callers new.callers w → caller_of caller new ≡ unwrap_or w no_calls
+now_is caller w old new u = ap (λ o. unwrap_or o no_calls) u.1
+
+-- the caller was `was`, and is `now`
+pub record Written (caller : ℕ) (was now : Caller) (old new : Callers) : Type 0 where
+  pub was_order : order_of caller old ≡ was.order
+  pub was_replies : replies_of caller old ≡ was.replies
+  pub order : order_of caller new ≡ now.order
+  pub replies : replies_of caller new ≡ now.replies
+  pub last : last_of caller new ≡ Some now.last
+  pub others : OthersKept caller old new
+
+pub written : (caller : ℕ) (was now : Caller) (old new : Callers) → caller_of caller old ≡ was → UpdatesBy nat_cmp (nat_cmp caller) old.callers new.callers (Some now) → Written caller was now old new
+written caller was now old new e u = record {
+  was_order = order_by caller old was e;
+  was_replies = replies_by caller old was e;
+  order = order_by caller new now (now_is caller (Some now) old new u);
+  replies = replies_by caller new now (now_is caller (Some now) old new u);
+  last = last_by caller new (Some now) (sym u.1);
+  others = others_kept caller (Some now) old new u;
+}
+
+-- what a write to an entry that was lent makes of the callers
+pub lent : (caller : ℕ) (old : Callers) (new : BTreeMap ℕ Caller) (was now : Caller) → Some was ≡ get nat_cmp old.callers caller → WritesThrough nat_cmp (nat_cmp caller) old.callers now new → Written caller was now old (record { callers = new })
+lent caller old new was now e h = written caller was now old (record { callers = new }) (there caller old was e) (h.3 (subst IsSome e refl))
+
+lent_last : (caller : ℕ) (old : Callers) (new : BTreeMap ℕ Caller) (was now : Caller) → Some was ≡ get nat_cmp old.callers caller → WritesThrough nat_cmp (nat_cmp caller) old.callers now new → now.last ≡ was.last
+    → (other : ℕ) → last_of other (record { callers = new }) ≡ last_of other old
+lent_last caller old new was now e h last = λ other.
+    let w = lent caller old new was now e h in
+    elim (cases_eq other caller) [
+      | inl same ↦ subst (λ (n : ℕ). last_of n (record { callers = new }) ≡ last_of n old) (sym same) (w.last ∙ ap Some last ∙ sym (last_by caller old (Some was) e))
+      | inr ne ↦ w.others.last other ne
+    ]
+
+-- the order of the entry changed
+pub lent_order : (caller : ℕ) (old : Callers) (new : BTreeMap ℕ Caller) (was now : Caller) → Some was ≡ get nat_cmp old.callers caller → WritesThrough nat_cmp (nat_cmp caller) old.callers now new → now.replies ≡ was.replies → now.last ≡ was.last
+    → OnlyOrder caller old (record { callers = new })
+lent_order caller old new was now e h replies last =
+    let w = lent caller old new was now e h in
+    record {
+      order = w.others.order;
+      replies = λ other. elim (cases_eq other caller) [
+        | inl same ↦ subst (λ (n : ℕ). replies_of n (record { callers = new }) ≡ replies_of n old) (sym same) (w.replies ∙ replies ∙ sym w.was_replies)
+        | inr ne ↦ w.others.replies other ne
+      ];
+      last = lent_last caller old new was now e h last;
+    }
+
+-- its replies changed
+pub lent_replies : (caller : ℕ) (old : Callers) (new : BTreeMap ℕ Caller) (was now : Caller) → Some was ≡ get nat_cmp old.callers caller → WritesThrough nat_cmp (nat_cmp caller) old.callers now new → now.order ≡ was.order → now.last ≡ was.last
+    → OnlyReplies caller old (record { callers = new })
+lent_replies caller old new was now e h order last =
+    let w = lent caller old new was now e h in
+    record {
+      order = λ other. elim (cases_eq other caller) [
+        | inl same ↦ subst (λ (n : ℕ). order_of n (record { callers = new }) ≡ order_of n old) (sym same) (w.order ∙ order ∙ sym w.was_order)
+        | inr ne ↦ w.others.order other ne
+      ];
+      replies = w.others.replies;
+      last = lent_last caller old new was now e h last;
+    }
+
+pub only_same : (caller : ℕ) (callers : Callers) → OnlyOrder caller callers callers
+only_same caller callers = record { order = λ other ne. refl; replies = λ other. refl; last = λ other. refl }
+
+pub only_twice : (caller : ℕ) (old mid new : Callers) → OnlyOrder caller old mid → OnlyOrder caller mid new → OnlyOrder caller old new
+only_twice caller old mid new one two = record {
+  order = λ other ne. two.order other ne ∙ one.order other ne;
+  replies = λ other. two.replies other ∙ one.replies other;
+  last = λ other. two.last other ∙ one.last other;
+}
+
+-- ---- a call that did not begin
+
+each_kept : (caller : ℕ) (was now : Caller) (old new : Callers) → last_of caller old ≡ Some was.last → Written caller was now old new → KeepsCalls was now → CallsKept old new
+each_kept caller was now old new was_last w k = record {
+  order = λ other. elim (cases_eq other caller) [
+    | inl e ↦ subst (λ (n : ℕ). order_of n new ≡ order_of n old) (sym e) (w.order ∙ k.order ∙ sym w.was_order)
+    | inr ne ↦ w.others.order other ne
+  ];
+  owed = λ other. elim (cases_eq other caller) [
+    | inl e ↦ subst (λ (n : ℕ). (replies_of n new).owed ≡ (replies_of n old).owed) (sym e) (ap (λ (r : Replies). r.owed) w.replies ∙ k.owed ∙ sym (ap (λ (r : Replies). r.owed) w.was_replies))
+    | inr ne ↦ ap (λ (r : Replies). r.owed) (w.others.replies other ne)
+  ];
+  last = λ other. elim (cases_eq other caller) [
+    | inl e ↦ subst (λ (n : ℕ). last_of n new ≡ last_of n old) (sym e) (w.last ∙ ap Some k.last ∙ sym was_last)
+    | inr ne ↦ w.others.last other ne
+  ];
+}
+
+pub err_kept : {T E : Type 0} (caller : ℕ) (was now : Caller) (old new : Callers) (result : Result T E) → last_of caller old ≡ Some was.last → Written caller was now old new → OnErr result (KeepsCalls was now) → OnErr result (CallsKept old new)
+err_kept caller was now old new (Ok x) was_last w k = tt
+err_kept caller was now old new (Err x) was_last w k = each_kept caller was now old new was_last w k
+
+same_callers : (caller : ℕ) (old new : Callers) → new.callers.entries ≡ old.callers.entries → caller_of caller new ≡ caller_of caller old
+same_callers caller old new e = ap (λ (es : List (ℕ × Caller)). unwrap_or (lookup (is_at (nat_cmp caller)) es) no_calls) e
+
+same_lasts : (caller : ℕ) (old new : Callers) → new.callers.entries ≡ old.callers.entries → last_of caller new ≡ last_of caller old
+same_lasts caller old new e = last_is caller new ∙ ap (λ (es : List (ℕ × Caller)). option_map (λ (c : Caller). c.last) (lookup (is_at (nat_cmp caller)) es)) e ∙ sym (last_is caller old)
+
+pub others_same : (caller : ℕ) (old new : Callers) → new.callers.entries ≡ old.callers.entries → OthersKept caller old new
+others_same caller old new e = record {
+  order = λ other ne. same_order other old new (same_callers other old new e);
+  replies = λ other ne. same_replies other old new (same_callers other old new e);
+  last = λ other ne. same_lasts other old new e;
+}
+
+pub err_same : {T E : Type 0} (old new : Callers) (result : Result T E) → new.callers.entries ≡ old.callers.entries → OnErr result (CallsKept old new)
+err_same old new (Ok x) e = tt
+err_same old new (Err x) e = record {
+  order = λ other. same_order other old new (same_callers other old new e);
+  owed = λ other. ap (λ (r : Replies). r.owed) (same_replies other old new (same_callers other old new e));
+  last = λ other. same_lasts other old new e;
+}
+
+-- ---- a caller is forgotten
+
+pub forgotten : (caller : ℕ) (old new : Callers) → UpdatesBy nat_cmp (nat_cmp caller) old.callers new.callers None → IsForgotten caller old new
+forgotten caller old new u = record {
+  order = order_by caller new no_calls (now_is caller None old new u);
+  replies = replies_by caller new no_calls (now_is caller None old new u);
+  last = last_by caller new None (sym u.1);
+  others = others_kept caller None old new u;
+}

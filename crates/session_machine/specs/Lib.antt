@@ -1,0 +1,12 @@
+pub mod Part
+pub mod Calls
+pub mod Free
+pub mod Links
+pub mod Puts
+pub mod Waiting
+pub mod Kept
+pub mod Took
+pub mod Begun
+pub mod Ties
+pub mod Caller
+pub mod Callers
