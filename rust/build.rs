@@ -50,9 +50,9 @@ fn in_prefix(prefix: &Path) -> Option<PathBuf> {
         .find(|lib| lib.join(ARCHIVE).is_file())
 }
 
-/// The folder that pkg-config has for a library of version 0.1.
+/// The folder that pkg-config has for a library of version 0.2.
 fn by_pkg_config() -> Option<PathBuf> {
-    let is_fit = ["--exists", "slotroute >= 0.1", "slotroute < 0.2"];
+    let is_fit = ["--exists", "slotroute >= 0.2", "slotroute < 0.3"];
     if !Command::new("pkg-config").args(is_fit).status().ok()?.success() {
         return None;
     }

@@ -140,7 +140,7 @@ class Library:
         return text.raw[:length].decode()
 
     def version(self) -> int:
-        """The version of the library as a number: 100 for 0.1.0."""
+        """The version of the library as a number: 200 for 0.2.0."""
         return int(self.lib.slotroute_version())
 
     def slot(self, key: bytes) -> int:

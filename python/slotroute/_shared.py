@@ -4,7 +4,7 @@ from __future__ import annotations
 
 from pathlib import Path
 
-NAME = "libslotroute.so.0.1"
+NAME = "libslotroute.so.0.2"
 # What x86-64-v2 adds, by the names of /proc/cpuinfo. There, pni is SSE3, and lahf_lm is LAHF.
 WANTED = ("cx16", "lahf_lm", "pni", "popcnt", "sse4_1", "sse4_2", "ssse3")
 
