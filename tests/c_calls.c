@@ -1100,7 +1100,7 @@ static int once(int call) {
     slotroute_redirected redirected = {0};
     uint32_t answer = SLOTROUTE_NO_MEMORY;
     switch (call) {
-    case 1: /* redis_batch_bytes::combine_answers resp::read */
+    case 1: /* redis_bytes::combine_answers resp::read */
         answer = slotroute_combine_answers(SLOTROUTE_MAPS, 2, BYTES(messages[14]), out, sizeof out, &told);
         break;
     case 2: /* resp::read_request redis_bytes::registry_in redis_bytes::fields_in redis_bytes::register_line

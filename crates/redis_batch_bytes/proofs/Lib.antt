@@ -13,5 +13,4 @@ pub mod Batchwise
 pub mod Parted
 pub mod Numbering
 pub mod ByTable
-pub mod OneReply
 pub mod Writable

@@ -9,7 +9,6 @@ pub mod Batches
 pub mod Told
 pub mod Unread
 pub mod Replies
-pub mod Several
 pub mod Numbered
 pub mod Parted
 pub mod FaultText

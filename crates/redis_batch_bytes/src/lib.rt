@@ -11,12 +11,10 @@ mod placing;
 mod plan;
 mod replies;
 mod requests;
-mod several;
 mod splitting;
 mod tasks;
 mod writing;
 
 pub use combining::combine_pipeline;
 pub use fault::BatchFault;
-pub use several::combine_answers;
 pub use splitting::{BatchBytes, split_pipeline};

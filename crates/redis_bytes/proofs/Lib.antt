@@ -1,6 +1,7 @@
 pub mod Arguments
 pub mod Ends
 pub mod Sequence
+pub mod WireAnswers
 pub mod Values
 pub mod Splits
 pub mod Numbers
@@ -15,3 +16,4 @@ pub mod Unsplit
 pub mod PartNumbers
 pub mod Formed
 pub mod JoinedForm
+pub mod OneReply

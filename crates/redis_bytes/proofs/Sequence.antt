@@ -1,6 +1,5 @@
 -- Replies one after the other.
 use Rattle.std.proofs.Common.{◌≡◌, ℕ, ◌-◌, ◌<◌, ◌^◌, List, [], ◌∷◌, ◌++◌, length, append_assoc, append-nil, refl, sym, ap, subst, ◌∙◌, arith}
-use Rattle.std.proofs.lemmas.Grind.{common_steps}
 use Rattle.std.proofs.lemmas.List.{length-append}
 use Rattle.resp_core.specs.Reply.{Reply}
 use Rattle.resp.specs.Forms.{InOrder}
@@ -13,31 +12,56 @@ use Rattle.redis_bytes.proofs.Formed.{replies_formed}
 abbrev none : List Reply
 none = []
 
--- replies that stand at the front
-pub record Stand (bytes rest : List ℕ) (replies : List Reply) : Type 0 where
-  pub front : List ℕ
-  pub bytes_are : bytes ≡ front ++ rest
-  pub are : AreReplies replies front
+module _ {Item : Type 0} (IsItem : Item → List ℕ → Type 0) where
+  -- items that stand at the front
+  pub record Stand (bytes rest : List ℕ) (items : List Item) : Type 0 where
+    pub front : List ℕ
+    pub bytes_are : bytes ≡ front ++ rest
+    pub are : InOrder IsItem items front
 
-pub none_stand : (bytes : List ℕ) → Stand bytes bytes []
-none_stand bytes = record { front = []; bytes_are = refl; are = refl }
+  pub none_stand : (bytes : List ℕ) → Stand bytes bytes []
+  none_stand bytes = record { front = []; bytes_are = refl; are = refl }
 
-in_order_push : {X : Type 0} (Each : X → List ℕ → Type 0) (xs : List X) (x : X) (front form : List ℕ) → InOrder Each xs front → Each x form → InOrder Each (xs ++ x ∷ []) (front ++ form)
-in_order_push Each [] x front form are is = (form, [], ap (λ (t : List ℕ). t ++ form) are ∙ sym (append-nil form), is, refl)
-in_order_push Each (y ∷ ys) x front form are is = (
-  are.0,
-  are.1 ++ form,
-  ap (λ (t : List ℕ). t ++ form) are.2 ∙ append_assoc are.0 are.1 form,
-  are.3,
-  in_order_push Each ys x are.1 form are.4 is,
-)
+  in_order_push : (items : List Item) (item : Item) (front form : List ℕ) → InOrder IsItem items front → IsItem item form → InOrder IsItem (items ++ item ∷ []) (front ++ form)
+  in_order_push [] item front form are is = (form, [], ap (λ (t : List ℕ). t ++ form) are ∙ sym (append-nil form), is, refl)
+  in_order_push (x ∷ items) item front form are is = (
+    are.0,
+    are.1 ++ form,
+    ap (λ (t : List ℕ). t ++ form) are.2 ∙ append_assoc are.0 are.1 form,
+    are.3,
+    in_order_push items item are.1 form are.4 is,
+  )
 
-pub one_more_stands : (bytes rest after form : List ℕ) (replies : List Reply) (reply : Reply) → Stand bytes rest replies → rest ≡ form ++ after → IsReply reply form → Stand bytes after (replies ++ reply ∷ [])
-one_more_stands bytes rest after form replies reply so_far next is = record {
-  front = so_far.front ++ form;
-  bytes_are = so_far.bytes_are ∙ ap (λ (t : List ℕ). so_far.front ++ t) next ∙ sym (append_assoc so_far.front form after);
-  are = in_order_push IsReply replies reply so_far.front form so_far.are is;
-}
+  pub one_more_stands : (bytes rest after form : List ℕ) (items : List Item) (item : Item) → Stand bytes rest items → rest ≡ form ++ after → IsItem item form → Stand bytes after (items ++ item ∷ [])
+  one_more_stands bytes rest after form items item so_far next is = record {
+    front = so_far.front ++ form;
+    bytes_are = so_far.bytes_are ∙ ap (λ (t : List ℕ). so_far.front ++ t) next ∙ sym (append_assoc so_far.front form after);
+    are = in_order_push items item so_far.front form so_far.are is;
+  }
+
+  -- the item of this number is the first that is not read
+  pub first_unread : (Why : ℕ → List ℕ → Type 0) (count number : ℕ) (bytes rest : List ℕ) (items : List Item) → Stand bytes rest items → length items ≡ number → number < count → Why number rest → IsFirstUnread IsItem Why count bytes
+  first_unread Why count number bytes rest items so_far long few next = record {
+    items = items;
+    front = so_far.front;
+    rest = rest;
+    bytes_are = so_far.bytes_are;
+    are = so_far.are;
+    few = omega (arith, long, few);
+    next = subst (λ n. Why n rest) (sym long) next;
+  }
+
+  pub followed : (count : ℕ) (bytes rest : List ℕ) (items : List Item) → Stand bytes rest items → length items ≡ count → 0 < length rest → AreFollowed IsItem count bytes (length bytes - length rest)
+  followed count bytes rest items so_far every some = record {
+    items = items;
+    front = so_far.front;
+    rest = rest;
+    bytes_are = so_far.bytes_are;
+    are = so_far.are;
+    all = every;
+    end_is = omega (arith, ap (length {A = ℕ}) so_far.bytes_are, length-append so_far.front rest);
+    more = some;
+  }
 
 -- replies that are all of the bytes begin with those that were read
 pub record Goes (all : List Reply) (rest : List ℕ) (replies : List Reply) : Type 0 where
@@ -80,26 +104,20 @@ only_fails {P = P} count bytes rest replies so_far few next all long are =
 
 -- ---- the fault
 
-first_unread : (count number : ℕ) (bytes rest : List ℕ) (replies : List Reply) (fault : BytesFault) → Stand bytes rest replies → length replies ≡ number → number < count → IsNoValue number rest fault → IsFirstUnread count bytes fault
-first_unread count number bytes rest replies fault so_far long few next = grind (arith, common_steps)
-
-pub unread : (count number : ℕ) (bytes rest : List ℕ) (replies : List Reply) (fault : BytesFault) → Stand bytes rest replies → length replies ≡ number → number < count → IsNoValue number rest fault → AreUnread count bytes fault
+pub unread : (count number : ℕ) (bytes rest : List ℕ) (replies : List Reply) (fault : BytesFault) → Stand IsReply bytes rest replies → length replies ≡ number → number < count → IsNoValue number rest fault → AreUnread count bytes fault
 unread count number bytes rest replies faults.Memory so_far long few next = tt
 unread count number bytes rest replies (faults.Request f) so_far long few next = absurd next
 unread count number bytes rest replies (faults.AfterRequest n) so_far long few next = absurd next
 unread count number bytes rest replies faults.NotMultiKey so_far long few next = absurd next
-unread count number bytes rest replies (faults.Reply n f) so_far long few next = first_unread count number bytes rest replies (faults.Reply n f) so_far long few next
-unread count number bytes rest replies (faults.Error n text) so_far long few next = first_unread count number bytes rest replies (faults.Error n text) so_far long few next
+unread count number bytes rest replies (faults.Reply n f) so_far long few next = first_unread IsReply (λ k left. IsNoValue k left (faults.Reply n f)) count number bytes rest replies so_far long few next
+unread count number bytes rest replies (faults.Error n text) so_far long few next = first_unread IsReply (λ k left. IsNoValue k left (faults.Error n text)) count number bytes rest replies so_far long few next
 unread count number bytes rest replies (faults.AfterReplies n) so_far long few next = absurd next
 unread count number bytes rest replies (faults.Unfit kind) so_far long few next = absurd next
 unread count number bytes rest replies faults.LineFeedInHost so_far long few next = absurd next
 unread count number bytes rest replies (faults.BadName _) so_far long few next = absurd next
 
-pub followed : (count : ℕ) (bytes rest : List ℕ) (replies : List Reply) → Stand bytes rest replies → length replies ≡ count → 0 < length rest → AreFollowed count bytes (length bytes - length rest)
-followed count bytes rest replies so_far every some = grind (arith, common_steps)
-
 -- what stands at the front can be written
-pub stand_writable : (bytes rest : List ℕ) (replies : List Reply) → length bytes < 2 ^ 63 → Stand bytes rest replies → AllByRecursion IsWritable replies
+pub stand_writable : (bytes rest : List ℕ) (replies : List Reply) → length bytes < 2 ^ 63 → Stand IsReply bytes rest replies → AllByRecursion IsWritable replies
 stand_writable bytes rest replies few stand =
     let long = ap (length {A = ℕ}) stand.bytes_are ∙ length-append stand.front rest in
     replies_formed replies stand.front (omega (arith, few, long)) stand.are

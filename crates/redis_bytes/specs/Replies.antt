@@ -43,32 +43,36 @@ IsNoValue number bytes (faults.Reply n fault) =
 IsNoValue number bytes (Error n text) = (n ≡ number) × BeginsError bytes text.items
 IsNoValue number bytes _ = ⊥
 
--- Fewer than `count` replies are at the front, and the next is no value for this reason.
-pub record IsFirstUnread (count : ℕ) (bytes : List ℕ) (fault : BytesFault) : Type 0 where
-  pub replies : List Reply
+-- Fewer than `count` items are at the front, and the next is not read, as `Why` says of its number and
+-- of the bytes there.
+pub record IsFirstUnread {Item : Type 0} (IsItem : Item → List ℕ → Type 0) (Why : ℕ → List ℕ → Type 0)
+    (count : ℕ) (bytes : List ℕ) : Type 0 where
+  pub items : List Item
   pub front : List ℕ
   pub rest : List ℕ
   pub bytes_are : bytes ≡ front ++ rest
-  pub are : AreReplies replies front
-  pub few : length replies < count
-  pub next : IsNoValue (length replies) rest fault
+  pub are : InOrder IsItem items front
+  pub few : length items < count
+  pub next : Why (length items) rest
 
--- `count` replies are at the front and end at index `end`, and more bytes follow.
-pub record AreFollowed (count : ℕ) (bytes : List ℕ) (end : ℕ) : Type 0 where
-  pub replies : List Reply
+-- `count` items are at the front and end at index `end`, and more bytes follow.
+pub record AreFollowed {Item : Type 0} (IsItem : Item → List ℕ → Type 0) (count : ℕ) (bytes : List ℕ)
+    (end : ℕ) : Type 0 where
+  pub items : List Item
   pub front : List ℕ
   pub rest : List ℕ
   pub bytes_are : bytes ≡ front ++ rest
-  pub are : AreReplies replies front
-  pub all : length replies ≡ count
+  pub are : InOrder IsItem items front
+  pub all : length items ≡ count
   pub end_is : end ≡ length front
   pub more : 0 < length rest
 
 -- why the bytes are not `count` replies
 abbrev pub AreUnread : ℕ → List ℕ → BytesFault → Type 0
 AreUnread count bytes Memory = Unit {0}
-AreUnread count bytes (AfterReplies end) = AreFollowed count bytes end
-AreUnread count bytes fault = IsFirstUnread count bytes fault
+AreUnread count bytes (AfterReplies end) = AreFollowed IsReply count bytes end
+AreUnread count bytes fault =
+    IsFirstUnread IsReply (λ number rest. IsNoValue number rest fault) count bytes
 
 -- The bytes are a reply to each part.
 pub record PartsAreAnswered (split : Split) (bytes : List ℕ) (replies : List Reply) : Type 0 where

@@ -1,7 +1,6 @@
 //! What faults print that no other row has.
 use fixtures::{bad_row, shown};
-use redis_batch_bytes::BatchFault;
-use redis_bytes::BytesFault;
+use redis_bytes::{AnswersFault, BytesFault};
 use resp::{Fault, ReadError, RequestError, RequestFault, WriteError};
 use resp_core::RedisResult;
 use slotroute_serve::{CommandFault, Refusal};
@@ -15,7 +14,7 @@ pub fn call(alloc: Global, name: &str) -> RedisResult<String> {
         "write" => shown(alloc, &WriteError::NoForm),
         "bytes" => shown(alloc, &BytesFault::AfterReplies(8)),
         "command" => shown(alloc, &CommandFault::Refused(Refusal::NotCovered(5061))),
-        "pipeline" => shown(alloc, &BatchFault::NotRoutable(1)),
+        "answers" => shown(alloc, &AnswersFault::NoForm),
         _ => Err(bad_row("no fault of this name")),
     }
 }

@@ -2,12 +2,14 @@
 use Rattle.std.specs.Prelude.{◌≢◌, ℕ}
 use Rattle.resp.specs.declared.fault.RequestFault.{RequestFault}
 use Rattle.resp.specs.declared.fault.RequestFault.TheVariants as request
+use Rattle.redis_bytes.specs.declared.answers_fault.AnswersFault.{AnswersFault}
+use Rattle.redis_bytes.specs.declared.answers_fault.AnswersFault.TheVariants as answers
 use Rattle.redis_bytes.specs.declared.fault.BytesFault.{BytesFault}
 use Rattle.redis_bytes.specs.declared.fault.BytesFault.TheVariants as faults
 use Rattle.slotroute_c.specs.declared.outcomes.Outcome.{Outcome}
-use Rattle.slotroute_c.specs.declared.outcomes.Outcome.TheVariants.{Done, TooSmall, NotText, NoMemory, RequestIncomplete, RequestMalformed, AfterRequest, NotMultiKey, ReplyIsError, AfterReplies, Unfit, LineFeedInHost, BadName}
+use Rattle.slotroute_c.specs.declared.outcomes.Outcome.TheVariants.{Done, TooSmall, NotText, NoMemory, RequestIncomplete, RequestMalformed, AfterRequest, NotMultiKey, ReplyIsError, AfterReplies, Unfit, NoForm, LineFeedInHost, BadName}
 use Rattle.slotroute_c.specs.declared.told.Told.{Told}
-use Rattle.slotroute_c.specs.Fields.{with_at, with_reply_number}
+use Rattle.slotroute_c.specs.Fields.{with_at, with_batch, with_reply_number}
 use Rattle.slotroute_c.specs.Outcomes.{code, of_reply}
 
 -- the outcome of a request's fault
@@ -27,6 +29,12 @@ outcome_of (faults.Unfit kind) = Unfit
 outcome_of faults.LineFeedInHost = LineFeedInHost
 outcome_of (faults.BadName number) = BadName
 
+abbrev pub outcome_of_answers : AnswersFault → Outcome
+outcome_of_answers answers.Memory = NoMemory
+outcome_of_answers (answers.Reply number fault) = of_reply fault
+outcome_of_answers (answers.AfterReplies end) = AfterReplies
+outcome_of_answers answers.NoForm = NoForm
+
 -- a code other than those of Done, TooSmall and NotText
 abbrev pub IsOther : ℕ → Type 0
 IsOther number = (number ≢ code Done) × (number ≢ code TooSmall) × (number ≢ code NotText)
@@ -45,3 +53,9 @@ with_fault (faults.Error number text) told = with_reply_number number told
 with_fault (faults.AfterReplies end) told = with_at end told
 with_fault (faults.BadName number) told = with_at number told
 with_fault _ told = told
+
+-- a fault of several nodes' replies is reported by the number of the reply or the index of the byte
+abbrev pub with_answers_fault : AnswersFault → Told → Told
+with_answers_fault (answers.Reply number fault) told = with_batch 0 (with_reply_number number told)
+with_answers_fault (answers.AfterReplies end) told = with_at end told
+with_answers_fault _ told = told

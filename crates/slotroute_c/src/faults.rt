@@ -1,10 +1,10 @@
 ghost use Rattle.std.specs.Prelude.{◌≡◌, ◌≢◌};
 ghost use Rattle.slotroute_c.specs.Outcomes.{code, of_reply};
-ghost use Rattle.slotroute_c.specs.Faults.{of_request, outcome_of, with_fault, with_request_fault, IsOther};
+ghost use Rattle.slotroute_c.specs.Faults.{of_request, outcome_of, outcome_of_answers, with_answers_fault, with_fault, with_request_fault, IsOther};
 
 use crate::outcomes::Outcome;
 use crate::told::Told;
-use redis_bytes::BytesFault;
+use redis_bytes::{AnswersFault, BytesFault};
 use resp::{Fault, RequestFault};
 
 /// The code of a fault. `told` gets the index or the number that goes with it.
@@ -40,6 +40,28 @@ pub(super) fn code_of(fault: &BytesFault, told: &mut Told) -> u32
             told.at = *number;
             Outcome::BadName.code()
         }
+    }
+}
+
+/// The code of a fault of several nodes' replies. `told` gets the index or the number that goes with
+/// it.
+pub(super) fn code_of_answers(fault: &AnswersFault, told: &mut Told) -> u32
+    ensures code { result ≡ code (outcome_of_answers fault.now) }
+    ensures told { told.new ≡ with_answers_fault fault.now told.old }
+    ensures other { IsOther result }
+{
+    match fault {
+        AnswersFault::Memory => Outcome::NoMemory.code(),
+        AnswersFault::Reply(number, fault) => {
+            told.batch = 0;
+            told.reply = *number;
+            code_of_reply(*fault)
+        }
+        AnswersFault::AfterReplies(end) => {
+            told.at = *end;
+            Outcome::AfterReplies.code()
+        }
+        AnswersFault::NoForm => Outcome::NoForm.code(),
     }
 }
 

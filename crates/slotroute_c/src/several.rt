@@ -1,18 +1,18 @@
 ghost use Rattle.std.specs.Prelude.{◌≡◌, ◌≢◌, ◌<◌, ℕ, List, Option, length};
 ghost use Rattle.redis_routing.specs.declared.policy.ResponsePolicy as declared;
-ghost use Rattle.redis_batch_bytes.specs.declared.fault.BatchFault as faults;
-ghost use Rattle.redis_batch_bytes.specs.Several.{AreAnswersBy, IsReplyForm, IsUnreplied};
+ghost use Rattle.redis_bytes.specs.declared.answers_fault.AnswersFault as faults;
+ghost use Rattle.redis_bytes.specs.Several.{AreAnswersBy, IsReplyForm, IsUnreplied};
 ghost use Rattle.slotroute_c.specs.Outcomes.{code};
 ghost use Rattle.slotroute_c.specs.Buffers.{IsWritten};
+ghost use Rattle.slotroute_c.specs.Faults.{outcome_of_answers, with_answers_fault};
 ghost use Rattle.slotroute_c.specs.Fields.{with_bytes};
-ghost use Rattle.slotroute_c.specs.Pipelines.{outcome_of_batch, with_batch_fault};
 ghost use Rattle.slotroute_c.specs.RouteNumbers.{IsPolicyOf};
 
 use crate::buffers::put_all;
+use crate::faults::code_of_answers;
 use crate::outcomes::Outcome;
-use crate::pipelines::code_of_batch;
 use crate::told::Told;
-use redis_batch_bytes::combine_answers;
+use redis_bytes::combine_answers;
 use redis_routing::{AggregateOp, LogicalAggregateOp, ResponsePolicy};
 use std::alloc::Global;
 
@@ -47,14 +47,14 @@ pub extern "C" fn slotroute_combine_answers(
         × (length out.old < length combined)
         × (told.new ≡ with_bytes (length combined) told.old) }
     ensures fault { result ≢ code Outcome.Done → result ≢ code Outcome.TooSmall
-        → (of : Option declared.ResponsePolicy) × IsPolicyOf policy of × (fault : faults.BatchFault)
-        × (result ≡ code (outcome_of_batch fault)) × IsUnreplied of count replies.now fault
-        × (told.new ≡ with_batch_fault fault told.old) }
+        → (of : Option declared.ResponsePolicy) × IsPolicyOf policy of × (fault : faults.AnswersFault)
+        × (result ≡ code (outcome_of_answers fault)) × IsUnreplied of count replies.now fault
+        × (told.new ≡ with_answers_fault fault told.old) }
     ensures unwritten { result ≢ code Outcome.Done → out.new ≡ out.old }
 {
     let one = match combine_answers(alloc, policy_of(policy), count, replies) {
         Ok(one) => one,
-        Err(fault) => return code_of_batch(&fault, told),
+        Err(fault) => return code_of_answers(&fault, told),
     };
     told.bytes = one.len();
     if out.len() < one.len() {

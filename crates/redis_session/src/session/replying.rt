@@ -4,8 +4,7 @@ use crate::reply::split_reply;
 use crate::schedule::ReplyRule;
 use crate::session::Session;
 use crate::told::{Effect, ErrorCause, PartFate, effect_of, error_reply, no_tries_reply};
-use redis_batch_bytes::{BatchFault, combine_answers};
-use redis_bytes::BytesFault;
+use redis_bytes::{AnswersFault, BytesFault, combine_answers};
 use redis_routing::{Names, ResponsePolicy};
 use session_core::Cause;
 use session_machine::{Call, Part, Phase};
@@ -203,7 +202,7 @@ fn several_reply(
     }
     match combine_answers(alloc, Some(policy), state.parts().len(), &replies) {
         Ok(bytes) => Ok(LastReply::Made(call, bytes)),
-        Err(BatchFault::Memory) => Err(AllocError),
+        Err(AnswersFault::Memory) => Err(AllocError),
         Err(_) => Ok(LastReply::Unfit(call)),
     }
 }

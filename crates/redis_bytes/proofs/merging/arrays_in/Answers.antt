@@ -4,12 +4,13 @@ use Rattle.std.proofs.lemmas.List.{length-append, length-map, map-append, map_pu
 use Rattle.resp_core.specs.Reply.{Reply, array, replies_of}
 use Rattle.resp.specs.Forms.{form}
 use Rattle.redis_bytes.specs.Merged.{arrays_of}
+use Rattle.redis_bytes.specs.Replies.{IsReply}
 use Rattle.redis_bytes.proofs.Arrays.{more_spans, no_spans}
 use Rattle.redis_bytes.proofs.Sequence.{Stand, none_stand, one_more_stands}
 use Rattle.redis_bytes.proofs.merging.arrays_in.Goals as goal
 
 pub loop-init : goal.loop-init
-loop-init c = grind (arith, common_steps, none_stand, no_spans)
+loop-init c = grind (arith, common_steps, none_stand IsReply, no_spans)
 
 pub loop-preserved : goal.loop-preserved
 loop-preserved c =
@@ -26,8 +27,8 @@ loop-preserved c =
     record {
       lists = l.lists ++ values ∷ [];
       many = omega (arith, length-append l.lists (values ∷ []), l.many);
-      stand = subst (Stand bytes after) (sym (map_push (λ (items : List Reply). array (replies_of items)) l.lists values))
-          (one_more_stands bytes c.loop.rest.now after (form one) (arrays_of l.lists) one l.stand found.2 found.3);
+      stand = subst (Stand IsReply bytes after) (sym (map_push (λ (items : List Reply). array (replies_of items)) l.lists values))
+          (one_more_stands IsReply bytes c.loop.rest.now after (form one) (arrays_of l.lists) one l.stand found.2 found.3);
       read = l.read ++ values;
       texts = texts;
       spans = rw (c.in_ok-push.ensures.items, c.in_ok-push-2.ensures.items, start, end) (more_spans l.lists l.read c.loop.starts.items c.loop.ends.items values l.spans);

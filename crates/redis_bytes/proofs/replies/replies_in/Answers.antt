@@ -3,6 +3,7 @@ use Rattle.std.proofs.lemmas.List.{length-append, length-map, map_push}
 use Rattle.std.proofs.lemmas.Result.{err_from_is_err_and}
 use Rattle.resp_core.specs.View.{view}
 use Rattle.resp_core.specs.declared.value.Value.{Value}
+use Rattle.redis_bytes.specs.Replies.{IsReply}
 use Rattle.redis_bytes.proofs.Sequence.{Stand, Only, one_more_stands, only_more, only_fails, stand_writable, unread}
 use Rattle.redis_bytes.proofs.replies.replies_in.Goals as goal
 
@@ -33,7 +34,7 @@ loop-number-preserved c =
     let few : length (map view values) < c.args.count = omega (arith, length-map values view, c.loop-number.invariant.each, c.loop-number-test.true) in
     record {
       each = omega (arith, ap (length {A = Value}) pushed, length-append values (value ∷ []), c.loop-number.invariant.each);
-      stand = subst (Stand bytes after) (sym items) (one_more_stands bytes rest after found.0 (map view values) (view value) c.loop-number.invariant.stand found.1 found.2);
+      stand = subst (Stand IsReply bytes after) (sym items) (one_more_stands IsReply bytes rest after found.0 (map view values) (view value) c.loop-number.invariant.stand found.1 found.2);
       only = subst (Only c.args.count bytes after) (sym items) (only_more c.args.count bytes rest after (map view values) (view value) c.loop-number.invariant.only few c.in_ok-value.ensures.only);
     }
 

@@ -1,5 +1,6 @@
 use Rattle.std.proofs.Common.{◌≡◌, length, map}
 use Rattle.resp_core.specs.View.{view}
+use Rattle.redis_bytes.specs.Replies.{IsReply}
 use Rattle.redis_bytes.proofs.Sequence.{Stand, Only}
 use Rattle.redis_bytes.proofs.replies.replies_in.Given as goal
 
@@ -7,6 +8,6 @@ use Rattle.redis_bytes.proofs.replies.replies_in.Given as goal
 abbrev pub invariant-loop-number : goal.invariant-loop-number
 invariant-loop-number l = record {
   each : length l.values.items ≡ l.number;
-  stand : Stand l.bytes l.rest (map view l.values.items);
+  stand : Stand IsReply l.bytes l.rest (map view l.values.items);
   only : Only l.count l.bytes l.rest (map view l.values.items);
 }

@@ -3,6 +3,7 @@ use Rattle.std.proofs.lemmas.Bool.Decides.{nat_tests}
 use Rattle.std.proofs.lemmas.List.{append-nil}
 use Rattle.std.proofs.lemmas.Result.{err_from_is_err_and}
 use Rattle.resp_core.specs.View.{view}
+use Rattle.redis_bytes.specs.Replies.{IsReply}
 use Rattle.redis_bytes.proofs.Sequence.{none_stand, one_more_stands, followed}
 use Rattle.redis_bytes.proofs.replies.reply_in.Goals as goal
 
@@ -25,7 +26,7 @@ returns-then-not-is_empty-clause-fault c =
     let reply = view c.in_ok-value.value in
     let f = c.in_ok-value.ensures.found in
     let some : 0 < length rest = grind (arith, nat_tests) in
-    followed 1 bytes rest (reply ∷ []) (one_more_stands bytes bytes rest f.0 [] reply (none_stand bytes) f.1 f.2) refl some
+    followed IsReply 1 bytes rest (reply ∷ []) (one_more_stands IsReply bytes bytes rest f.0 [] reply (none_stand IsReply bytes) f.1 f.2) refl some
 
 pub returns-clause-only : goal.returns-clause-only
 returns-clause-only c = λ reply is. (c.in_ok-value.ensures.only reply c.args.bytes.now [] is (sym (append-nil c.args.bytes.now))).0

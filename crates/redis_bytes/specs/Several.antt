@@ -7,11 +7,9 @@ use Rattle.redis_routing.specs.declared.policy.ResponsePolicy.{ResponsePolicy}
 use Rattle.redis_routing.specs.declared.policy.ResponsePolicy.TheVariants.{Special}
 use Rattle.redis_bytes.specs.Replies.{IsWritable}
 use Rattle.redis_commands.specs.Policy.{Combined, of_target, refused, reply_by_policy}
-use Rattle.redis_batch_bytes.specs.declared.fault.BatchFault.{BatchFault}
-use Rattle.redis_batch_bytes.specs.declared.fault.BatchFault.TheVariants.{AfterReplies, NoForm}
-use Rattle.redis_batch_bytes.specs.Replies.{StandAsTold}
-use Rattle.redis_batch_bytes.specs.Told.{said_of}
-use Rattle.redis_batch_bytes.specs.Unread.{AnswersAreFollowed, IsUnreadAnswer}
+use Rattle.redis_bytes.specs.Answers.{AreUnreadAnswers, StandAsAnswers, text_of}
+use Rattle.redis_bytes.specs.declared.answers_fault.AnswersFault.{AnswersFault}
+use Rattle.redis_bytes.specs.declared.answers_fault.AnswersFault.TheVariants.{NoForm}
 
 -- keys and values in turn
 abbrev pub flat_items : Pairs → List Reply
@@ -34,7 +32,7 @@ has_no_addresses policy = true
 -- the bytes are those of the one reply: a value, or an error of a node
 abbrev pub IsReplyForm : List ℕ → Combined → Type 0
 IsReplyForm bytes (Ok reply) = bytes ≡ form (without_map reply)
-IsReplyForm bytes (Err (of_target error)) = bytes ≡ line 45 (said_of error)
+IsReplyForm bytes (Err (of_target error)) = bytes ≡ line 45 (text_of error)
 IsReplyForm bytes (Err refused) = ⊥
 
 -- there is no one reply in bytes: the values do not fit the policy, or the reply cannot be written
@@ -49,16 +47,15 @@ pub record AreAnswersBy (policy : Option ResponsePolicy) (count : ℕ) (bytes : 
   pub plain : has_no_addresses policy ≡ true
   pub answers : List Answer
   pub all : length answers ≡ count
-  pub stand : StandAsTold bytes [] answers
+  pub stand : StandAsAnswers bytes [] answers
   pub so : IsSo (reply_by_policy policy [] answers)
 
 -- why bytes are not `count` answers that make one reply
-abbrev pub HaveNoReply : Option ResponsePolicy → ℕ → List ℕ → BatchFault → Type 0
+abbrev pub HaveNoReply : Option ResponsePolicy → ℕ → List ℕ → AnswersFault → Type 0
 HaveNoReply policy count bytes NoForm = AreAnswersBy policy count bytes HasNoReplyForm
-HaveNoReply policy count bytes (AfterReplies end) = AnswersAreFollowed count bytes end
-HaveNoReply policy count bytes fault = IsUnreadAnswer 0 count bytes fault
+HaveNoReply policy count bytes fault = AreUnreadAnswers count bytes fault
 
 -- why a policy makes no one reply of bytes
-abbrev pub IsUnreplied : Option ResponsePolicy → ℕ → List ℕ → BatchFault → Type 0
+abbrev pub IsUnreplied : Option ResponsePolicy → ℕ → List ℕ → AnswersFault → Type 0
 IsUnreplied policy count bytes fault = ((has_no_addresses policy ≡ false) × (fault ≡ NoForm))
     ⊎ ((has_no_addresses policy ≡ true) × HaveNoReply policy count bytes fault)

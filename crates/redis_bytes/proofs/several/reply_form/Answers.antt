@@ -1,5 +1,5 @@
-use Rattle.redis_batch_bytes.proofs.OneReply.{error_faults, error_forms, value_faults, value_forms}
-use Rattle.redis_batch_bytes.proofs.several.reply_form.Goals as goal
+use Rattle.redis_bytes.proofs.OneReply.{error_faults, error_forms, value_faults, value_forms}
+use Rattle.redis_bytes.proofs.several.reply_form.Goals as goal
 
 pub returns-in-Ok-clause-bytes : goal.returns-in-Ok-clause-bytes
 returns-in-Ok-clause-bytes c = value_forms c.args.policy c.args.answers.items c.in_ok-given.given.items c.in_ok-given.ensures c.in-Ok.value c.value_form.result c.in-Ok.ensures.reply c.value_form.ensures.bytes

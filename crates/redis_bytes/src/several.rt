@@ -1,18 +1,15 @@
-ghost use Rattle.std.specs.Prelude.{◌≡◌, ◌≢◌, ◌⊎◌, [], ℕ, List, Some, length, map, IfOk, IfErr};
+ghost use Rattle.std.specs.Prelude.{◌≡◌, ◌≢◌, ◌⊎◌, [], List, Some, map, IfOk, IfErr};
 ghost use Rattle.resp_core.specs.Answer.{answer_of};
 ghost use Rattle.resp_core.specs.Reply.{pairs_of};
 ghost use Rattle.resp_core.specs.View.{view, view_pair};
 ghost use Rattle.resp.specs.Forms.{form, line};
 ghost use Rattle.redis_bytes.specs.Replies.{IsWritable};
 ghost use Rattle.redis_commands.specs.Policy.{reply_by_policy};
-ghost use Rattle.redis_batch_bytes.specs.Replies.{StandAsTold};
-ghost use Rattle.redis_batch_bytes.specs.Several.{AreAnswersBy, HasNoReplyForm, IsReplyForm, IsUnreplied, flat_items, has_no_addresses, without_map};
-ghost use Rattle.redis_batch_bytes.specs.Told.{WireAnswer, answer_of_wire, said_of};
-ghost use Rattle.redis_batch_bytes.specs.Unread.{AnswersAreFollowed, IsUnreadAnswer};
+ghost use Rattle.redis_bytes.specs.Answers.{WireAnswer, answer_of_wire, text_of};
+ghost use Rattle.redis_bytes.specs.Several.{AreAnswersBy, HasNoReplyForm, IsReplyForm, IsUnreplied, flat_items, has_no_addresses, without_map};
 
-use crate::answers::answers_at;
-use crate::fault::BatchFault;
-use crate::writing::push_error;
+use crate::answers::{answers_in, push_error};
+use crate::answers_fault::AnswersFault;
 use redis_routing::ResponsePolicy;
 use resp::{WriteError, write};
 use resp_core::{ErrorKind, RedisError, RedisResult, Value};
@@ -30,14 +27,14 @@ use std::alloc::{AllocError, Global};
 ///
 /// In this order: `NoForm` if the policy is `Special` or there is none, as for `INFO`. `Reply` for
 /// the first reply that cannot be read or is missing. `AfterReplies` if bytes follow the last one.
-/// `NoForm` if the replies do not fit the policy, or the one reply has no form. Numbers of batches
-/// are 0 here. `Memory` if memory runs out.
+/// `NoForm` if the replies do not fit the policy, or the one reply has no form. `Memory` if memory
+/// runs out.
 pub fn combine_answers(
     alloc: Global,
     policy: Option<ResponsePolicy>,
     count: usize,
     replies: &[u8],
-) -> Result<Vec<u8>, BatchFault>
+) -> Result<Vec<u8>, AnswersFault>
     // The bytes are the answers, and the one reply that the policy makes of these is written.
     ensures combined { IfOk result
         (λ combined. AreAnswersBy policy count replies.now (IsReplyForm combined.items)) }
@@ -45,9 +42,9 @@ pub fn combine_answers(
     ensures fault { IfErr result (λ fault. IsUnreplied policy count replies.now fault) }
 {
     if !has_no_addresses(policy) {
-        return Err(BatchFault::NoForm);
+        return Err(AnswersFault::NoForm);
     }
-    let answers = all_answers(alloc, count, replies)?;
+    let answers = answers_in(alloc, count, replies)?;
     reply_form(alloc, policy, answers)
 }
 
@@ -58,36 +55,17 @@ fn has_no_addresses(policy: Option<ResponsePolicy>) -> bool
     !matches!(policy, None | Some(ResponsePolicy::Special))
 }
 
-/// The `count` answers that the bytes are.
-fn all_answers(
-    alloc: Global,
-    count: usize,
-    bytes: &[u8],
-) -> Result<Vec<RedisResult<Value>>, BatchFault>
-    ensures count { IfOk result (λ answers. length answers.items ≡ count) }
-    ensures found { IfOk result
-        (λ answers. StandAsTold bytes.now [] (map answer_of answers.items)) }
-    ensures fault { IfErr result (λ fault. IsUnreadAnswer 0 count bytes.now fault
-        ⊎ ((end : ℕ) × (fault ≡ BatchFault.AfterReplies end) × AnswersAreFollowed count bytes.now end)) }
-{
-    let (answers, rest) = answers_at(alloc, 0, count, bytes)?;
-    if !rest.is_empty() {
-        return Err(BatchFault::AfterReplies(bytes.len() - rest.len()));
-    }
-    Ok(answers)
-}
-
 /// The bytes of the one reply that a policy makes of answers.
 fn reply_form(
     alloc: Global,
     policy: Option<ResponsePolicy>,
     answers: Vec<RedisResult<Value>>,
-) -> Result<Vec<u8>, BatchFault>
+) -> Result<Vec<u8>, AnswersFault>
     ensures bytes { IfOk result (λ bytes. IsReplyForm bytes.items
         (reply_by_policy policy [] (map answer_of answers.items))) }
     ensures fault { IfErr result (λ fault. (said : List WireAnswer)
         → map answer_of answers.items ≡ map answer_of_wire said
-        → (fault ≡ BatchFault.Memory) ⊎ ((fault ≡ BatchFault.NoForm)
+        → (fault ≡ AnswersFault.Memory) ⊎ ((fault ≡ AnswersFault.NoForm)
         × HasNoReplyForm (reply_by_policy policy [] (map answer_of answers.items)))) }
 {
     let given = all_given(alloc, answers)?;
@@ -112,27 +90,27 @@ fn all_given(
 }
 
 /// The bytes of the error of a node.
-fn error_form(alloc: Global, error: &RedisError) -> Result<Vec<u8>, BatchFault>
+fn error_form(alloc: Global, error: &RedisError) -> Result<Vec<u8>, AnswersFault>
     ensures bytes { IfOk result (λ bytes. (error.now.kind ≢ ErrorKind.OutOfMemory)
         × (error.now.kind ≢ ErrorKind.UnexpectedReturnType)
-        × (bytes.items ≡ line 45 (said_of error.now))) }
-    ensures fault { IfErr result (λ fault. (fault ≡ BatchFault.Memory)
-        ⊎ ((fault ≡ BatchFault.NoForm) × (error.now.kind ≡ ErrorKind.UnexpectedReturnType))) }
+        × (bytes.items ≡ line 45 (text_of error.now))) }
+    ensures fault { IfErr result (λ fault. (fault ≡ AnswersFault.Memory)
+        ⊎ ((fault ≡ AnswersFault.NoForm) × (error.now.kind ≡ ErrorKind.UnexpectedReturnType))) }
 {
     let mut bytes = Vec::new(alloc);
     match error.kind() {
-        ErrorKind::OutOfMemory => return Err(BatchFault::Memory),
-        ErrorKind::UnexpectedReturnType => return Err(BatchFault::NoForm),
+        ErrorKind::OutOfMemory => return Err(AnswersFault::Memory),
+        ErrorKind::UnexpectedReturnType => return Err(AnswersFault::NoForm),
         ErrorKind::Client | ErrorKind::InvalidClientConfig => push_error(&mut bytes, error)?,
     }
     Ok(bytes)
 }
 
 /// The bytes of a value, or of the array of a map's keys and values.
-fn value_form(alloc: Global, value: &Value) -> Result<Vec<u8>, BatchFault>
+fn value_form(alloc: Global, value: &Value) -> Result<Vec<u8>, AnswersFault>
     ensures bytes { IfOk result (λ bytes. bytes.items ≡ form (without_map (view value.now))) }
-    ensures fault { IfErr result (λ fault. (fault ≡ BatchFault.Memory)
-        ⊎ ((fault ≡ BatchFault.NoForm) × (IsWritable (without_map (view value.now)) → ⊥))) }
+    ensures fault { IfErr result (λ fault. (fault ≡ AnswersFault.Memory)
+        ⊎ ((fault ≡ AnswersFault.NoForm) × (IsWritable (without_map (view value.now)) → ⊥))) }
 {
     match value {
         Value::Map(entries) => form_of(alloc, &Value::Array(flat_items(alloc, entries)?)),
@@ -141,15 +119,15 @@ fn value_form(alloc: Global, value: &Value) -> Result<Vec<u8>, BatchFault>
 }
 
 /// The bytes of a value.
-fn form_of(alloc: Global, value: &Value) -> Result<Vec<u8>, BatchFault>
+fn form_of(alloc: Global, value: &Value) -> Result<Vec<u8>, AnswersFault>
     ensures bytes { IfOk result (λ bytes. bytes.items ≡ form (view value.now)) }
-    ensures fault { IfErr result (λ fault. (fault ≡ BatchFault.Memory)
-        ⊎ ((fault ≡ BatchFault.NoForm) × (IsWritable (view value.now) → ⊥))) }
+    ensures fault { IfErr result (λ fault. (fault ≡ AnswersFault.Memory)
+        ⊎ ((fault ≡ AnswersFault.NoForm) × (IsWritable (view value.now) → ⊥))) }
 {
     match write(alloc, value) {
         Ok(bytes) => Ok(bytes),
-        Err(WriteError::Memory) => Err(BatchFault::Memory),
-        Err(WriteError::NoForm) => Err(BatchFault::NoForm),
+        Err(WriteError::Memory) => Err(AnswersFault::Memory),
+        Err(WriteError::NoForm) => Err(AnswersFault::NoForm),
     }
 }
 

@@ -1,5 +1,5 @@
 use Rattle.std.proofs.Common.{◌≡◌, ◌++◌, Some, map}
-use Rattle.redis_batch_bytes.proofs.several.all_given.Given as goal
+use Rattle.redis_bytes.proofs.several.all_given.Given as goal
 
 abbrev pub invariant-loop-answer : goal.invariant-loop-answer
 invariant-loop-answer l =

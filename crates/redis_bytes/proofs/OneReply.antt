@@ -1,5 +1,5 @@
 -- The one reply that a policy makes of answers in bytes, and what is returned of it.
-use Rattle.std.proofs.Common.{◌≡◌, ◌≢◌, ◌⊎◌, ℕ, Vec, Global, IfOk, IfErr, List, [], ◌∷◌, false, Option, Some, None, Result, Ok, Err, inl, inr, map, refl, sym, ap, subst, ◌∙◌}
+use Rattle.std.proofs.Common.{◌≡◌, ◌≢◌, ◌⊎◌, ℕ, Vec, Global, IfOk, IfErr, List, [], ◌∷◌, true, false, Option, Some, None, Result, Ok, Err, inl, inr, map, refl, sym, ap, subst, ◌∙◌}
 use Rattle.std.specs.Prelude.{filter_map, is_none}
 use Rattle.std.specs.List.{last_or, list_any}
 use Rattle.std.specs.Result.{result_err}
@@ -16,10 +16,10 @@ use Rattle.redis_commands.specs.Answers.{answers_given, first_error, last_error}
 use Rattle.redis_commands.specs.Policy.{Combined, Returns, of_target, or_refused, refused, reply_by_policy, reply_or, unless_error}
 use Rattle.redis_commands.specs.Rule.{IsCombined, by_policy}
 use Rattle.redis_bytes.specs.Replies.{IsWritable}
-use Rattle.redis_batch_bytes.specs.declared.fault.BatchFault.{BatchFault}
-use Rattle.redis_batch_bytes.specs.declared.fault.BatchFault.TheVariants.{Memory, NoForm}
-use Rattle.redis_batch_bytes.specs.Several.{HasNoReplyForm, IsReplyForm, without_map}
-use Rattle.redis_batch_bytes.specs.Told.{WireAnswer, answer_of_wire, error_of, said_of}
+use Rattle.redis_bytes.specs.Answers.{AreUnreadAnswers, WireAnswer, answer_of_wire, error_of, text_of}
+use Rattle.redis_bytes.specs.Several.{HasNoReplyForm, IsReplyForm, IsUnreplied, has_no_addresses, without_map}
+use Rattle.redis_bytes.specs.declared.answers_fault.AnswersFault.{AnswersFault}
+use Rattle.redis_bytes.specs.declared.answers_fault.AnswersFault.TheVariants as faults
 
 -- ---- answers that are all there
 
@@ -92,6 +92,14 @@ target_is_client policy said e h = by policy h
     by (Some CombineMaps) h = first _ (no_target _ e) h
     by (Some Special) h = first _ (no_target _ e) h
 
+-- ---- why there is none
+
+pub unreplied : (policy : Option ResponsePolicy) (count : ℕ) (bytes : List ℕ) → has_no_addresses policy ≡ true → (fault : AnswersFault) → AreUnreadAnswers count bytes fault → IsUnreplied policy count bytes fault
+unreplied policy count bytes plain faults.Memory why = inr (plain, why)
+unreplied policy count bytes plain (faults.Reply n f) why = inr (plain, why)
+unreplied policy count bytes plain (faults.AfterReplies end) why = inr (plain, why)
+unreplied policy count bytes plain faults.NoForm why = absurd why.next
+
 -- ---- what is written
 
 abbrev failed : ErrorParts → Result Value ErrorParts
@@ -100,9 +108,9 @@ failed error = Err error
 kind_is : (e f : ErrorParts) → failed e ≡ failed f → e.kind ≡ f.kind
 kind_is e f h = let same : e ≡ f = cc h in ap (λ (x : ErrorParts). x.kind) same
 
-error_form : (combined : Combined) (error : ErrorParts) (bytes : List ℕ) → Returns (Err error) combined → (error.kind ≡ UnexpectedReturnType → ⊥) → bytes ≡ line 45 (said_of error) → IsReplyForm bytes combined
+error_form : (combined : Combined) (error : ErrorParts) (bytes : List ℕ) → Returns (Err error) combined → (error.kind ≡ UnexpectedReturnType → ⊥) → bytes ≡ line 45 (text_of error) → IsReplyForm bytes combined
 error_form (Ok reply) error bytes returned other written = absurd returned
-error_form (Err (of_target own)) error bytes returned other written = written ∙ ap (λ (e : ErrorParts). line 45 (said_of e)) returned
+error_form (Err (of_target own)) error bytes returned other written = written ∙ ap (λ (e : ErrorParts). line 45 (text_of e)) returned
 error_form (Err refused) error bytes returned other written = absurd (other returned)
 
 refused_form : (combined : Combined) (error : ErrorParts) → Returns (Err error) combined → error.kind ≡ UnexpectedReturnType → ((own : ErrorParts) → combined ≡ Err (of_target own) → own.kind ≡ InvalidClientConfig) → HasNoReplyForm combined
@@ -115,30 +123,30 @@ made policy xs = reply_by_policy policy [] (map answer_of xs)
 
 module _ (policy : Option ResponsePolicy) (xs : List (Result Value ErrorParts)) (given : List (Option (Result Value ErrorParts))) (are : given ≡ map Some xs) where
   -- a value, or none that has a form
-  pub value_forms : (value : Value) (r : Result (Vec ℕ Global) BatchFault) → (list_any is_none given ≡ false → IsCombined (by_policy policy) [] (answers_given given) (Ok value))
+  pub value_forms : (value : Value) (r : Result (Vec ℕ Global) AnswersFault) → (list_any is_none given ≡ false → IsCombined (by_policy policy) [] (answers_given given) (Ok value))
       → IfOk r (λ bytes. bytes.items ≡ form (without_map (view value))) → IfOk r (λ bytes. IsReplyForm bytes.items (made policy xs))
   value_forms value (Err fault) combined written = tt
   value_forms value (Ok bytes) combined written =
       subst (IsReplyForm bytes.items) (sym (returns_made policy xs given (Ok value) are combined (λ out. absurd (cc out)))) written
 
-  pub value_faults : (value : Value) (r : Result (Vec ℕ Global) BatchFault) → (list_any is_none given ≡ false → IsCombined (by_policy policy) [] (answers_given given) (Ok value))
-      → IfErr r (λ fault. (fault ≡ Memory) ⊎ ((fault ≡ NoForm) × (IsWritable (without_map (view value)) → ⊥)))
-      → IfErr r (λ fault. (said : List WireAnswer) → map answer_of xs ≡ map answer_of_wire said → (fault ≡ Memory) ⊎ ((fault ≡ NoForm) × HasNoReplyForm (made policy xs)))
+  pub value_faults : (value : Value) (r : Result (Vec ℕ Global) AnswersFault) → (list_any is_none given ≡ false → IsCombined (by_policy policy) [] (answers_given given) (Ok value))
+      → IfErr r (λ fault. (fault ≡ faults.Memory) ⊎ ((fault ≡ faults.NoForm) × (IsWritable (without_map (view value)) → ⊥)))
+      → IfErr r (λ fault. (said : List WireAnswer) → map answer_of xs ≡ map answer_of_wire said → (fault ≡ faults.Memory) ⊎ ((fault ≡ faults.NoForm) × HasNoReplyForm (made policy xs)))
   value_faults value (Ok bytes) combined is = tt
   value_faults value (Err fault) combined (inl memory) = λ said same. inl memory
   value_faults value (Err fault) combined (inr none) = λ said same.
       inr (none.0, subst HasNoReplyForm (sym (returns_made policy xs given (Ok value) are combined (λ out. absurd (cc out)))) none.1)
 
   -- the error of a node, or values that do not fit
-  pub error_forms : (error : ErrorParts) (r : Result (Vec ℕ Global) BatchFault) → (list_any is_none given ≡ false → IsCombined (by_policy policy) [] (answers_given given) (Err error))
-      → IfOk r (λ bytes. (error.kind ≢ OutOfMemory) × (error.kind ≢ UnexpectedReturnType) × (bytes.items ≡ line 45 (said_of error))) → IfOk r (λ bytes. IsReplyForm bytes.items (made policy xs))
+  pub error_forms : (error : ErrorParts) (r : Result (Vec ℕ Global) AnswersFault) → (list_any is_none given ≡ false → IsCombined (by_policy policy) [] (answers_given given) (Err error))
+      → IfOk r (λ bytes. (error.kind ≢ OutOfMemory) × (error.kind ≢ UnexpectedReturnType) × (bytes.items ≡ line 45 (text_of error))) → IfOk r (λ bytes. IsReplyForm bytes.items (made policy xs))
   error_forms error (Err fault) combined written = tt
   error_forms error (Ok bytes) combined written =
       error_form (made policy xs) error bytes.items (returns_made policy xs given (Err error) are combined (λ out. written.0 (kind_is error out_of_memory out))) written.1 written.2
 
-  pub error_faults : (error : ErrorParts) (r : Result (Vec ℕ Global) BatchFault) → (list_any is_none given ≡ false → IsCombined (by_policy policy) [] (answers_given given) (Err error))
-      → IfErr r (λ fault. (fault ≡ Memory) ⊎ ((fault ≡ NoForm) × (error.kind ≡ UnexpectedReturnType)))
-      → IfErr r (λ fault. (said : List WireAnswer) → map answer_of xs ≡ map answer_of_wire said → (fault ≡ Memory) ⊎ ((fault ≡ NoForm) × HasNoReplyForm (made policy xs)))
+  pub error_faults : (error : ErrorParts) (r : Result (Vec ℕ Global) AnswersFault) → (list_any is_none given ≡ false → IsCombined (by_policy policy) [] (answers_given given) (Err error))
+      → IfErr r (λ fault. (fault ≡ faults.Memory) ⊎ ((fault ≡ faults.NoForm) × (error.kind ≡ UnexpectedReturnType)))
+      → IfErr r (λ fault. (said : List WireAnswer) → map answer_of xs ≡ map answer_of_wire said → (fault ≡ faults.Memory) ⊎ ((fault ≡ faults.NoForm) × HasNoReplyForm (made policy xs)))
   error_faults error (Ok bytes) combined is = tt
   error_faults error (Err fault) combined (inl memory) = λ said same. inl memory
   error_faults error (Err fault) combined (inr misfit) = λ said same.

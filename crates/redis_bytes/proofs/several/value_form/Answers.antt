@@ -3,8 +3,8 @@ use Rattle.resp.specs.Forms.{form}
 use Rattle.resp_core.specs.Reply.{Reply, array, pairs, pairs_of, replies_of}
 use Rattle.resp_core.specs.View.{view, view_pair}
 use Rattle.resp_core.specs.declared.value.Value.{Array, Map, the_lemmas}
-use Rattle.redis_batch_bytes.specs.Several.{flat_items, without_map}
-use Rattle.redis_batch_bytes.proofs.several.value_form.Goals as goal
+use Rattle.redis_bytes.specs.Several.{flat_items, without_map}
+use Rattle.redis_bytes.proofs.several.value_form.Goals as goal
 
 pub returns-in_ok-flat_items-in-Map-clause-bytes : goal.returns-in_ok-flat_items-in-Map-clause-bytes
 returns-in_ok-flat_items-in-Map-clause-bytes c =
