@@ -1,7 +1,7 @@
 //! In Rust, what some calls of the library for C do for the bench: requests and replies walked as
 //! bytes and checked, groups in a `HashMap`, each part written once. Arguments are borrowed. It knows
-//! `SET`, `DEL` and `MGET` alone, and doesn't say where bytes are at fault. `bench/in_c.c` calls it,
-//! and compares what both write.
+//! `DEL` and `MGET` alone, and doesn't say where bytes are at fault. `bench/in_c.c` calls it, and
+//! compares what both write.
 
 use std::collections::HashMap;
 
@@ -77,13 +77,9 @@ fn request(bytes: &[u8]) -> Option<(Vec<&[u8]>, &[u8])> {
     Some((args, rest))
 }
 
-/// Whether a command is split by slot. `None` if it is not known.
-fn is_split(args: &[&[u8]]) -> Option<bool> {
-    match &*args.first()?.to_ascii_uppercase() {
-        b"SET" if args.len() > 1 => Some(false),
-        b"DEL" | b"MGET" if args.len() > 1 => Some(true),
-        _ => None,
-    }
+/// Whether a command is split by slot.
+fn is_split(args: &[&[u8]]) -> bool {
+    args.len() > 1 && matches!(&*args[0].to_ascii_uppercase(), b"DEL" | b"MGET")
 }
 
 /// What follows the reply at the front.
@@ -140,7 +136,7 @@ fn groups(keys: &[&[u8]]) -> (Vec<u16>, Vec<usize>) {
 
 fn split(bytes: &[u8]) -> Option<(Vec<u16>, Vec<usize>, Vec<u8>)> {
     let (args, []) = request(bytes)? else { return None };
-    is_split(&args)?.then_some(())?;
+    is_split(&args).then_some(())?;
     let (slots, places) = groups(&args[1..]);
     let mut keys = vec![Vec::new(); slots.len()];
     args[1..].iter().zip(&places).for_each(|(key, place)| keys[*place].push(*key));
@@ -157,7 +153,7 @@ fn split(bytes: &[u8]) -> Option<(Vec<u16>, Vec<usize>, Vec<u8>)> {
 /// The lists of the replies as one, in the order of the keys.
 fn combine(bytes: &[u8], mut replies: &[u8]) -> Option<Vec<u8>> {
     let (args, []) = request(bytes)? else { return None };
-    is_split(&args)?.then_some(())?;
+    is_split(&args).then_some(())?;
     let (slots, places) = groups(&args[1..]);
     let mut items = Vec::with_capacity(slots.len());
     for _ in &slots {
@@ -171,45 +167,6 @@ fn combine(bytes: &[u8], mut replies: &[u8]) -> Option<Vec<u8>> {
         let after = after_reply(items[place])?;
         out.extend_from_slice(&items[place][..items[place].len() - after.len()]);
         items[place] = after;
-    }
-    Some(out)
-}
-
-/// For each node, in the order of the first command, how many commands it gets and their bytes.
-fn batches<'a>(mut bytes: &'a [u8], numbers: &[u16]) -> Option<(Vec<u16>, Vec<usize>, Vec<Vec<&'a [u8]>>)> {
-    let (mut nodes, mut seen, mut places, mut own) = (Vec::new(), HashMap::new(), Vec::new(), Vec::new());
-    while !bytes.is_empty() {
-        let (args, after) = request(bytes)?;
-        if is_split(&args)? {
-            return None;
-        }
-        let node = numbers[usize::from(slot_of(args[1]))];
-        let place = *seen.entry(node).or_insert_with(|| {
-            nodes.push(node);
-            own.push(Vec::new());
-            nodes.len() - 1
-        });
-        own[place].push(&bytes[..bytes.len() - after.len()]);
-        places.push(place);
-        bytes = after;
-    }
-    Some((nodes, places, own))
-}
-
-fn combine_pipeline(bytes: &[u8], numbers: &[u16], mut replies: &[u8]) -> Option<Vec<u8>> {
-    let (_, places, own) = batches(bytes, numbers)?;
-    let mut starts = Vec::with_capacity(own.len());
-    let mut out = Vec::with_capacity(replies.len());
-    for commands in &own {
-        starts.push(replies);
-        for _ in commands {
-            replies = after_reply(replies)?;
-        }
-    }
-    for place in places {
-        let after = after_reply(starts[place])?;
-        out.extend_from_slice(&starts[place][..starts[place].len() - after.len()]);
-        starts[place] = after;
     }
     Some(out)
 }
@@ -251,32 +208,4 @@ unsafe extern "C" fn careful_combine(
 ) -> usize {
     let one = combine(unsafe { all(request, len) }, unsafe { all(replies, replies_len) });
     put(unsafe { all_mut(out, room) }, &one.unwrap_or_default())
-}
-
-#[unsafe(no_mangle)]
-unsafe extern "C" fn careful_split_pipeline(
-    requests: *const u8, len: usize, numbers: *const u16, nodes: *mut u16, counts: *mut usize, ends: *mut usize,
-    batches_len: usize, out: *mut u8, room: usize,
-) -> usize {
-    let numbers = unsafe { all(numbers, 16384) };
-    let Some((its_nodes, _, own)) = batches(unsafe { all(requests, len) }, numbers) else { return 0 };
-    let (mut bytes, mut its_ends) = (Vec::with_capacity(len), Vec::with_capacity(own.len()));
-    for commands in &own {
-        commands.iter().for_each(|command| bytes.extend_from_slice(command));
-        its_ends.push(bytes.len());
-    }
-    put(unsafe { all_mut(nodes, batches_len) }, &its_nodes);
-    put(unsafe { all_mut(counts, batches_len) }, &own.iter().map(Vec::len).collect::<Vec<_>>());
-    put(unsafe { all_mut(ends, batches_len) }, &its_ends);
-    put(unsafe { all_mut(out, room) }, &bytes)
-}
-
-#[unsafe(no_mangle)]
-unsafe extern "C" fn careful_combine_pipeline(
-    requests: *const u8, len: usize, numbers: *const u16, replies: *const u8, replies_len: usize, out: *mut u8,
-    room: usize,
-) -> usize {
-    let (numbers, replies) = unsafe { (all(numbers, 16384), all(replies, replies_len)) };
-    let combined = combine_pipeline(unsafe { all(requests, len) }, numbers, replies);
-    put(unsafe { all_mut(out, room) }, &combined.unwrap_or_default())
 }

@@ -51,10 +51,6 @@ size_t careful_split(const uint8_t *request, size_t len, uint16_t *slots, size_t
                      uint8_t *out, size_t room);
 size_t careful_combine(const uint8_t *request, size_t len, const uint8_t *replies, size_t replies_len,
                        uint8_t *out, size_t room);
-size_t careful_split_pipeline(const uint8_t *requests, size_t len, const uint16_t *numbers, uint16_t *nodes,
-                              size_t *counts, size_t *ends, size_t batches, uint8_t *out, size_t room);
-size_t careful_combine_pipeline(const uint8_t *requests, size_t len, const uint16_t *numbers,
-                                const uint8_t *replies, size_t replies_len, uint8_t *out, size_t room);
 
 /* Ends unless Rust wrote the same bytes. */
 static void same(const char *row, const uint8_t *own, size_t len, const uint8_t *other, size_t other_len) {
@@ -229,71 +225,6 @@ static void time_combining(void) {
     }
 }
 
-/* A pipeline of SET, and the replies to it. */
-static void make_pipeline(size_t commands, text *requests, text *replies) {
-    *requests = some_room(commands * 64);
-    *replies = some_room(commands * 8);
-    for (size_t i = 0; i < commands; i++) {
-        add(requests, "*3\r\n$3\r\nSET\r\n$11\r\nkey:%07zu\r\n", i * 7919);
-        add(requests, "$8\r\nvalue%03zu\r\n", i);
-        add(replies, "+OK\r\n", i);
-    }
-}
-
-/* Puts replies in the order of the requests, each of which is one part. Returns their length. */
-static size_t put_in_order(const text *replies, const size_t *places, size_t count, uint8_t *out) {
-    static size_t starts[1000], lens[1000];
-    size_t start = 0, len = 0;
-    for (size_t i = 0; i < count; i++) {
-        slotroute_told told = {0};
-        sink += slotroute_reply_len(replies->bytes + start, replies->len - start, &told);
-        starts[places[i]] = start;
-        lens[places[i]] = told.bytes;
-        start += told.bytes;
-    }
-    for (size_t i = 0; i < count; i++) {
-        memcpy(out + len, replies->bytes + starts[i], lens[i]);
-        len += lens[i];
-    }
-    return len;
-}
-
-/* By a table in which each slot has another node than the next. */
-static void time_pipelines(void) {
-    static uint16_t numbers[SLOTROUTE_SLOTS], nodes[3], rust_nodes[3];
-    static size_t places[1000], parts[1000];
-    size_t counts[3], ends[3], rust_counts[3], rust_ends[3], rust_len = 0;
-    double own, rust;
-    for (size_t slot = 0; slot < SLOTROUTE_SLOTS; slot++) numbers[slot] = (uint16_t)(slot % 3);
-    for (size_t commands = 1; commands <= 1000; commands *= 10) {
-        text requests, replies, out = some_room(commands * 64), in_rust = some_room(commands * 64);
-        slotroute_told told = {0};
-        make_pipeline(commands, &requests, &replies);
-        IN_TURN(own, rust, 20000 / commands + 1,
-                sink += slotroute_split_pipeline(requests.bytes, requests.len, NULL, 0, numbers, SLOTROUTE_SLOTS,
-                nodes, 3, counts, 3, ends, 3, places, 1000, parts, 1000, out.bytes, commands * 64, &told),
-                rust_len = careful_split_pipeline(requests.bytes, requests.len, numbers, rust_nodes, rust_counts,
-                rust_ends, 3, in_rust.bytes, commands * 64));
-        same("split_pipeline", out.bytes, told.bytes, in_rust.bytes, rust_len);
-        row("slotroute_split_pipeline of SET", commands, own, rust, 0);
-        IN_TURN(own, rust, 20000 / commands + 1,
-                sink += slotroute_combine_pipeline(requests.bytes, requests.len, NULL, 0, numbers, SLOTROUTE_SLOTS,
-                replies.bytes, replies.len, out.bytes, commands * 64, &told),
-                rust_len = careful_combine_pipeline(requests.bytes, requests.len, numbers, replies.bytes,
-                replies.len, in_rust.bytes, commands * 64));
-        same("combine_pipeline", out.bytes, told.bytes, in_rust.bytes, rust_len);
-        row("slotroute_combine_pipeline of SET", commands, own, rust, 0);
-        size_t len = 0;
-        LEAST(own, 20000 / commands + 1, len = put_in_order(&replies, places, commands, out.bytes));
-        same("replies by places", out.bytes, len, in_rust.bytes, rust_len);
-        row("replies put in order by places", commands, own, 0, 0);
-        free(requests.bytes);
-        free(replies.bytes);
-        free(out.bytes);
-        free(in_rust.bytes);
-    }
-}
-
 static void time_the_rest(void) {
     static uint16_t numbers[SLOTROUTE_SLOTS];
     static uint8_t lines[4096];
@@ -330,7 +261,6 @@ int main(void) {
     time_reading();
     time_splitting();
     time_combining();
-    time_pipelines();
     time_the_rest();
     return 0;
 }

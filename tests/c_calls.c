@@ -97,13 +97,6 @@ static uint64_t mixed(uint64_t sum, const void *bytes, size_t len) {
     return sum;
 }
 
-/* A table of two nodes, each with half of the slots. */
-static uint16_t halves[SLOTROUTE_SLOTS];
-
-static void make_table(void) {
-    for (size_t slot = SLOTROUTE_SLOTS / 2; slot < SLOTROUTE_SLOTS; slot++) halves[slot] = 1;
-}
-
 /* Makes random calls, and gives a sum of all that they answer and write. */
 static uint64_t some_calls(pool *of, uint64_t seed, int times) {
     uint64_t sum = 14695981039346656037u;
@@ -119,7 +112,7 @@ static uint64_t some_calls(pool *of, uint64_t seed, int times) {
         slotroute_redirected redirected = {0};
         uint32_t answer = 0;
         memset(out, 0xA5, out_len);
-        switch (next(&seed) % 13) {
+        switch (next(&seed) % 11) {
         case 0: answer = slotroute_slot(bytes, len); break;
         case 1: answer = slotroute_request_len(bytes, len, &told); break;
         case 2: answer = slotroute_reply_len(bytes, len, &told); break;
@@ -150,32 +143,11 @@ static uint64_t some_calls(pool *of, uint64_t seed, int times) {
         case 7: answer = slotroute_redirect(bytes, len, others, other_len, out, out_len, &redirected); break;
         case 8: answer = (uint32_t)slotroute_message(next(&seed) % 21, out, out_len); break;
         case 9: {
-            size_t nodes_len = most(&seed, 4), numbers_len = SLOTROUTE_SLOTS - next(&seed) % 2 * 8192;
-            slots_len = most(&seed, 4);
-            ends_len = most(&seed, 4);
-            uint16_t *nodes = (uint16_t *)(void *)of->end[3] - nodes_len;
-            size_t *counts = (size_t *)(void *)of->end[4] - slots_len, *ends = counts - ends_len;
-            size_t places_len = most(&seed, 4), parts_len = most(&seed, 4);
-            size_t *places = ends - places_len, *parts = places - parts_len;
-            memset(nodes, 0xA5, 2 * nodes_len);
-            memset(parts, 0xA5, sizeof *parts * (parts_len + places_len + ends_len + slots_len));
-            answer = slotroute_split_pipeline(bytes, len, names, names_len, halves, numbers_len, nodes, nodes_len,
-                                              counts, slots_len, ends, ends_len, places, places_len, parts,
-                                              parts_len, out, out_len, &told);
-            sum = mixed(sum, nodes, 2 * nodes_len);
-            sum = mixed(sum, parts, sizeof *parts * (parts_len + places_len + ends_len + slots_len));
-            break;
-        }
-        case 10:
-            answer = slotroute_combine_pipeline(bytes, len, names, names_len, halves, SLOTROUTE_SLOTS, others,
-                                                other_len, out, out_len, &told);
-            break;
-        case 11: {
             uint32_t policy = next(&seed) % 12;
             answer = slotroute_combine_answers(policy, next(&seed) % 4, bytes, len, out, out_len, &told);
             break;
         }
-        case 12: {
+        case 10: {
             slotroute_progress progress = {0};
             progress.bytes = next(&seed) % 2 ? next(&seed) % 64 : (size_t)0 - next(&seed) % 64;
             progress.searched = next(&seed) % 2 ? next(&seed) % 16 : (size_t)0 - next(&seed) % 16;
@@ -253,30 +225,6 @@ static int is_untouched(const void *bytes, size_t len) {
     return 1;
 }
 
-#define PIPELINE "*3\r\n$3\r\nSET\r\n$1\r\na\r\n$1\r\n1\r\n*3\r\n$4\r\nMGET\r\n$1\r\nb\r\n$1\r\na\r\n"
-
-/* The same of a pipeline into batches, which have 69 bytes. */
-static int is_no_batch(size_t nodes_len, size_t counts_len, size_t ends_len, size_t places_len, size_t parts_len,
-                       size_t bytes) {
-    uint16_t nodes[2];
-    size_t counts[2], ends[2], places[3], parts[2];
-    uint8_t out[80];
-    slotroute_told told = {0};
-    memset(nodes, 0xA5, sizeof nodes);
-    memset(counts, 0xA5, sizeof counts);
-    memset(ends, 0xA5, sizeof ends);
-    memset(places, 0xA5, sizeof places);
-    memset(parts, 0xA5, sizeof parts);
-    memset(out, 0xA5, sizeof out);
-    uint32_t answer = slotroute_split_pipeline(BYTES(PIPELINE), NULL, 0, halves, SLOTROUTE_SLOTS, nodes, nodes_len,
-                                               counts, counts_len, ends, ends_len, places, places_len, parts,
-                                               parts_len, out, bytes, &told);
-    return answer == SLOTROUTE_TOO_SMALL && told.parts == 2 && told.bytes == 69 && told.reply == 3
-        && told.request == 2 && is_untouched(nodes, sizeof nodes) && is_untouched(counts, sizeof counts)
-        && is_untouched(ends, sizeof ends) && is_untouched(places, sizeof places)
-        && is_untouched(parts, sizeof parts) && is_untouched(out, sizeof out);
-}
-
 /* Whether a split into these rooms is refused as too small, tells what it needs, and writes nothing. */
 static int is_refused(size_t parts, size_t ends_len, size_t bytes) {
     uint16_t slots[2];
@@ -311,18 +259,10 @@ static int small(void) {
     if (slotroute_redirect(BYTES(messages[10]), BYTES("n1"), out, 8, &redirected) != SLOTROUTE_TOO_SMALL
         || redirected.host_len != 9 || !is_untouched(out, sizeof out))
         return 4;
-    if (!is_no_batch(1, 2, 2, 3, 2, 69) || !is_no_batch(2, 1, 2, 3, 2, 69) || !is_no_batch(2, 2, 1, 3, 2, 69)
-        || !is_no_batch(2, 2, 2, 2, 2, 69) || !is_no_batch(2, 2, 2, 3, 1, 69) || !is_no_batch(2, 2, 2, 3, 2, 68))
-        return 6;
-    if (slotroute_combine_pipeline(BYTES(PIPELINE), NULL, 0, halves, SLOTROUTE_SLOTS,
-                                   BYTES("+OK\r\n*1\r\n$1\r\n1\r\n*1\r\n$-1\r\n"), out, 20, &told)
-            != SLOTROUTE_TOO_SMALL
-        || told.bytes != 21 || !is_untouched(out, sizeof out))
-        return 7;
     if (slotroute_combine_answers(SLOTROUTE_SUM, 2, BYTES(":3\r\n:4\r\n"), out, 3, &told) != SLOTROUTE_TOO_SMALL
         || told.bytes != 4 || !is_untouched(out, sizeof out))
-        return 8;
-    if (slotroute_message(SLOTROUTE_NO_MEMORY, out, 12) != 13 || !is_untouched(out, sizeof out)) return 5;
+        return 5;
+    if (slotroute_message(SLOTROUTE_NO_MEMORY, out, 12) != 13 || !is_untouched(out, sizeof out)) return 6;
     return 0;
 }
 
@@ -453,19 +393,11 @@ static int null(void) {
                != SLOTROUTE_TOO_SMALL
         || slotroute_combine_answers(SLOTROUTE_SUM, 1, NULL, 0, NULL, 0, &told) != SLOTROUTE_REPLY_INCOMPLETE)
         return 2;
-    if (slotroute_split_pipeline(NULL, 0, NULL, 0, NULL, 0, NULL, 0, NULL, 0, NULL, 0, NULL, 0, NULL, 0, NULL, 0,
-                                 &told)
-            != SLOTROUTE_DONE
-        || slotroute_split_pipeline(BYTES(PIPELINE), NULL, 0, NULL, 0, NULL, 0, NULL, 0, NULL, 0, NULL, 0, NULL, 0,
-                                    NULL, 0, &told)
-               != SLOTROUTE_NOT_COVERED
-        || slotroute_combine_pipeline(NULL, 0, NULL, 0, NULL, 0, NULL, 0, NULL, 0, &told) != SLOTROUTE_DONE)
-        return 3;
     if (slotroute_table(NULL, 0, NULL, 0, 0, 0, NULL, 0, NULL, 0, &told) != SLOTROUTE_REPLY_INCOMPLETE
         || slotroute_table(BYTES(messages[9]), NULL, 0, 0, 0, NULL, 0, NULL, 0, &told) != SLOTROUTE_TOO_SMALL
         || slotroute_redirect(NULL, 0, NULL, 0, NULL, 0, &redirected) != SLOTROUTE_NO_REDIRECT
         || slotroute_redirect(BYTES(messages[10]), NULL, 0, NULL, 0, &redirected) != SLOTROUTE_TOO_SMALL)
-        return 4;
+        return 3;
     return 0;
 }
 
@@ -997,24 +929,6 @@ static void *combine_call(void *answer) {
     return answer;
 }
 
-static void *pipeline_call(void *answer) {
-    static uint8_t out[sizeof deep];
-    slotroute_told told = {0};
-    *(uint32_t *)answer = slotroute_combine_pipeline(BYTES(many), NULL, 0, halves, SLOTROUTE_SLOTS, BYTES(deep),
-                                                     out, sizeof out, &told);
-    return answer;
-}
-
-static void *batches_call(void *answer) {
-    static uint16_t nodes[2];
-    static size_t counts[2], ends[2], places[KEYS], parts[2];
-    static uint8_t out[KEYS * 64];
-    slotroute_told told = {0};
-    *(uint32_t *)answer = slotroute_split_pipeline(BYTES(many), NULL, 0, halves, SLOTROUTE_SLOTS, nodes, 2, counts, 2,
-                                                   ends, 2, places, KEYS, parts, 2, out, sizeof out, &told);
-    return answer;
-}
-
 static void *answers_call(void *answer) {
     static uint8_t out[sizeof deep];
     slotroute_told told = {0};
@@ -1082,8 +996,8 @@ static size_t taken(void *(*call)(void *)) {
 static int stack(void) {
     make_deep();
     size_t none = taken(no_call);
-    void *(*const others[])(void *) = {combine_call, pipeline_call, batches_call, answers_call,
-                                       route_call,   table_call,    light_calls,  session_calls};
+    void *(*const others[])(void *) = {combine_call, answers_call, route_call,
+                                       table_call,   light_calls,  session_calls};
     if (taken(split_call) > none + 8192) return 1;
     for (int i = 0; i < (int)(sizeof others / sizeof *others); i++)
         if (taken(others[i]) > none + 16384) return 2 + i;
@@ -1094,7 +1008,7 @@ static int once(int call) {
     static uint16_t slots[SLOTROUTE_SLOTS];
     static uint8_t out[512];
     static char line[64];
-    size_t ends[8] = {0}, counts[8] = {0}, places[8] = {0}, parts[8] = {0};
+    size_t ends[8] = {0};
     slotroute_told told = {0};
     slotroute_routed routed = {0};
     slotroute_redirected redirected = {0};
@@ -1121,24 +1035,14 @@ static int once(int call) {
         answer = slotroute_redirect(BYTES("MOVED 1 a-host-of-more-than-sixteen-bytes:1"), BYTES("n1"), out,
                                     sizeof out, &redirected);
         break;
-    case 7: /* redis_batch_bytes::split_pipeline */
-        answer = slotroute_split_pipeline(BYTES(PIPELINE), NULL, 0, halves, SLOTROUTE_SLOTS, slots, 8, counts,
-                                          8, ends, 8, places, 8, parts, 8, out, sizeof out, &told);
-        break;
-    case 8: /* redis_batch_bytes::combine_pipeline */
-        answer = slotroute_combine_pipeline(BYTES(PIPELINE), NULL, 0, halves, SLOTROUTE_SLOTS,
-                                            BYTES("-ERR no\r\n*1\r\n$1\r\n1\r\n*1\r\n$-1\r\n"), out,
-                                            sizeof out, &told);
-        break;
-    case 9: /* resp::push_items resp::push_array_line */
+    case 7: /* resp::push_items resp::push_array_line */
         answer = slotroute_combine(BYTES(messages[2]), NULL, 0, BYTES("*2\r\n$1\r\nx\r\n$-1\r\n*1\r\n$0\r\n\r\n"), out,
                                    sizeof out, &told);
         break;
-    case 10: answer = session_call(out, sizeof out); break;
+    case 8: answer = session_call(out, sizeof out); break;
     }
     uint64_t sum = mixed(mixed(14695981039346656037u, slots, sizeof slots), out, sizeof out);
-    sum = mixed(mixed(sum, ends, sizeof ends), counts, sizeof counts);
-    sum = mixed(mixed(sum, places, sizeof places), parts, sizeof parts);
+    sum = mixed(sum, ends, sizeof ends);
     sum = mixed(mixed(sum, &told, sizeof told), &routed, sizeof routed);
     sum = mixed(sum, &redirected.host_len, sizeof redirected.host_len);
     setvbuf(stdout, line, _IOFBF, sizeof line);
@@ -1147,7 +1051,6 @@ static int once(int call) {
 }
 
 int main(int count, char **words) {
-    make_table();
     if (count == 2 && strcmp(words[1], "pages") == 0) return pages();
     if (count == 2 && strcmp(words[1], "small") == 0) return small();
     if (count == 2 && strcmp(words[1], "exact") == 0) return exact();

@@ -145,7 +145,7 @@ typedef struct slotroute_routed {
     uint32_t policy;
 } slotroute_routed;
 
-/* Five calls take names: a text that registers commands of a module that are split by slot, or
+/* Three calls take names: a text that registers commands of a module that are split by slot, or
  * nothing. A line has four fields, with spaces between them: multi PATTERN POLICY NAME. A name of
  * two words takes two fields. No name is registered twice. PATTERN says how the arguments make keys:
  * keys, pairs (a key and a value), last (keys, and one argument for all), triples. POLICY says how
@@ -200,38 +200,6 @@ uint32_t slotroute_table(const uint8_t *reply, size_t reply_len,
                          uint32_t addr, size_t pick,
                          uint16_t *numbers, size_t numbers_len,
                          uint8_t *nodes, size_t nodes_len, slotroute_told *told);
-
-/* Splits a pipeline of requests into one batch for each node. numbers is a table of
- * slotroute_table. Batch i goes to the node of the number nodes[i], which has to run its commands
- * in order and returns counts[i] replies. Its bytes are those of out from ends[i - 1], or from 0,
- * up to ends[i]. told->parts is the number of batches, and told->bytes the number of bytes. Each
- * command goes to the slot of its first key, or is one that slotroute_split splits. If a request is at
- * fault, told->request is its number.
- *
- * A request that is split has as many parts as slotroute_split makes of it, and another request is one
- * part. Parts are numbered from 0, request after request. parts[i] is how many request i has. Reply
- * i, counted from the first reply to batch 0, answers the part places[i]. told->reply is how many
- * replies will come, and told->request how many requests there are. */
-uint32_t slotroute_split_pipeline(const uint8_t *requests, size_t requests_len,
-                                  const uint8_t *names, size_t names_len,
-                                  const uint16_t *numbers, size_t numbers_len,
-                                  uint16_t *nodes, size_t nodes_len,
-                                  size_t *counts, size_t counts_len,
-                                  size_t *ends, size_t ends_len,
-                                  size_t *places, size_t places_len,
-                                  size_t *parts, size_t parts_len,
-                                  uint8_t *out, size_t out_len, slotroute_told *told);
-
-/* Writes the replies to the requests of a pipeline, by the replies to its batches. replies has
- * these batch after batch, in whatever order the batches were sent. names and numbers have to be as
- * they were for the split. An error is the reply to its command, or to the command whose part it answers.
- * told->bytes is the length of the replies. If a reply is at fault, told->batch is the number of
- * its batch and told->reply its number there. */
-uint32_t slotroute_combine_pipeline(const uint8_t *requests, size_t requests_len,
-                                    const uint8_t *names, size_t names_len,
-                                    const uint16_t *numbers, size_t numbers_len,
-                                    const uint8_t *replies, size_t replies_len,
-                                    uint8_t *out, size_t out_len, slotroute_told *told);
 
 /* A redirect, without its host. */
 enum { SLOTROUTE_MOVED = 1, SLOTROUTE_ASK = 2 };

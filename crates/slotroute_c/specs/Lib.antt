@@ -7,7 +7,6 @@ pub mod Fields
 pub mod Named
 pub mod Parts
 pub mod Tables
-pub mod Pipelines
 pub mod SessionBlocks
 pub mod SessionHandles
 pub mod Refused

@@ -9,7 +9,6 @@ mod keys;
 mod lengths;
 mod outcomes;
 mod parts;
-mod pipelines;
 mod redirects;
 mod routes;
 mod scans;

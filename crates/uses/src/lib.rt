@@ -1,7 +1,6 @@
 //! What a user of the layer writes: one file for each example.
 #![tactic(auto)]
 
-pub mod batched_bytes;
 pub mod batcher;
 pub mod bytes;
 pub mod client;

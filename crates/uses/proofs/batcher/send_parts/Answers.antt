@@ -3,10 +3,9 @@ use Rattle.std.specs.Prelude.{None, Some, option_map, slice_get}
 use Rattle.std.proofs.lemmas.List.{map_push}
 use Rattle.redis_cluster.specs.Plan.{Plan}
 use Rattle.redis_cluster.specs.Ready.{Target, targets}
-use Rattle.uses.proofs.Handing.{take_past, zip_within}
+use Rattle.uses.proofs.Handing.{take_next, take_past, zip_within}
 use Rattle.uses.proofs.batcher.send_parts.Goals as goal
 use Rattle.uses.proofs.batcher.send_parts.Goals.{in-Some+in_ok-push, in_default}
-use Rattle.redis_batch_bytes.proofs.Lists.{take_next}
 
 -- what holds whatever a result is
 if_ok : {T E A : Type 0} (r : Result T E) → A → OnOk r A
