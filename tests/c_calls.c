@@ -327,7 +327,6 @@ static int is_routed(const char *request, uint32_t slot, uint32_t addr) {
 static int is_missing(size_t count) {
     slotroute_told told = told_before(), wanted = told_before();
     uint8_t out[16];
-    wanted.batch = 0;
     wanted.reply = 1;
     return slotroute_combine_answers(SLOTROUTE_SUM, count, BYTES(":1\r\n"), out, sizeof out, &told)
                == SLOTROUTE_REPLY_INCOMPLETE
@@ -600,8 +599,8 @@ static int is_each_refused(slotroute_session *session) {
 
 /* Whether only the codes of refusals have a reply. */
 static int is_reply_of_refusals(void) {
-    static const uint32_t others[] = {SLOTROUTE_DONE,     SLOTROUTE_TOO_SMALL,   SLOTROUTE_NOT_MULTI_KEY,
-                                      SLOTROUTE_NOT_TEXT, SLOTROUTE_NOT_COVERED, SLOTROUTE_NOT_THERE,
+    static const uint32_t others[] = {SLOTROUTE_DONE,     SLOTROUTE_TOO_SMALL,  SLOTROUTE_NOT_MULTI_KEY,
+                                      SLOTROUTE_NOT_TEXT, SLOTROUTE_NOT_THERE,  18,
                                       24,                 UINT32_MAX};
     for (size_t i = 0; i < sizeof others / sizeof *others; i++)
         if (!is_refusal_reply(others[i], "")) return 0;

@@ -55,9 +55,7 @@ enum {
     SLOTROUTE_NOT_TEXT = 14,          /* a text or a host is not UTF-8 */
     SLOTROUTE_NO_REDIRECT = 15,       /* the text is no redirect */
     SLOTROUTE_LINE_FEED_IN_HOST = 16, /* the host of a slot's node has a line feed */
-    SLOTROUTE_NOT_ROUTABLE = 17,      /* the request of the number told.request goes to no single
-                                         slot and is not split by slot, as PING */
-    SLOTROUTE_NOT_COVERED = 18,       /* a slot of that request has no node */
+    SLOTROUTE_NOT_ROUTABLE = 17,      /* the request goes to no node, as DEL without a key */
     SLOTROUTE_BAD_NAME = 19,          /* the line of the number told.at, counted from 0, registers no
                                          name */
     SLOTROUTE_NOT_THERE = 20,         /* there is none, or none of this number */
@@ -70,10 +68,8 @@ enum {
 typedef struct slotroute_told {
     size_t parts; /* how many parts there are */
     size_t bytes; /* how many bytes there are */
-    size_t reply; /* the number of a reply, counted from 0; or how many replies will come */
+    size_t reply; /* the number of a reply, counted from 0 */
     size_t at;    /* the index of a byte, or of a line of names, counted from 0 */
-    size_t request; /* the number of a request of a pipeline, counted from 0; or how many there are */
-    size_t batch;   /* the number of a batch of a pipeline, counted from 0 */
 } slotroute_told;
 
 /* The length of the text of a code. The text is written if it fits, with no 0 at its end. */
@@ -180,8 +176,7 @@ uint32_t slotroute_combine(const uint8_t *request, size_t request_len,
  * slotroute_route. replies has the reply of each node, in the order of the nodes. The one reply may
  * be an error of a node. A map is an array of its keys and values. told->bytes is the length of the
  * one reply. SLOTROUTE_NO_FORM, which no other call returns: the policy is SLOTROUTE_NO_POLICY,
- * SLOTROUTE_SPECIAL, as of INFO, or no number of a policy; or the replies do not fit the policy. If a
- * reply is at fault, told->batch is 0. */
+ * SLOTROUTE_SPECIAL, as of INFO, or no number of a policy; or the replies do not fit the policy. */
 uint32_t slotroute_combine_answers(uint32_t policy, size_t count,
                                    const uint8_t *replies, size_t replies_len,
                                    uint8_t *out, size_t out_len, slotroute_told *told);

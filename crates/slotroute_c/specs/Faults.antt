@@ -9,7 +9,7 @@ use Rattle.redis_bytes.specs.declared.fault.BytesFault.TheVariants as faults
 use Rattle.slotroute_c.specs.declared.outcomes.Outcome.{Outcome}
 use Rattle.slotroute_c.specs.declared.outcomes.Outcome.TheVariants.{Done, TooSmall, NotText, NoMemory, RequestIncomplete, RequestMalformed, AfterRequest, NotMultiKey, ReplyIsError, AfterReplies, Unfit, NoForm, LineFeedInHost, BadName}
 use Rattle.slotroute_c.specs.declared.told.Told.{Told}
-use Rattle.slotroute_c.specs.Fields.{with_at, with_batch, with_reply_number}
+use Rattle.slotroute_c.specs.Fields.{with_at, with_reply_number}
 use Rattle.slotroute_c.specs.Outcomes.{code, of_reply}
 
 -- the outcome of a request's fault
@@ -56,6 +56,6 @@ with_fault _ told = told
 
 -- a fault of several nodes' replies is reported by the number of the reply or the index of the byte
 abbrev pub with_answers_fault : AnswersFault → Told → Told
-with_answers_fault (answers.Reply number fault) told = with_batch 0 (with_reply_number number told)
+with_answers_fault (answers.Reply number fault) told = with_reply_number number told
 with_answers_fault (answers.AfterReplies end) told = with_at end told
 with_answers_fault _ told = told

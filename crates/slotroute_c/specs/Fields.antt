@@ -8,8 +8,6 @@ with_sizes parts bytes told = record {
   bytes = bytes;
   reply = told.reply;
   at = told.at;
-  request = told.request;
-  batch = told.batch;
 }
 
 abbrev pub with_bytes : ℕ → Told → Told
@@ -21,8 +19,6 @@ with_reply_number reply told = record {
   bytes = told.bytes;
   reply = reply;
   at = told.at;
-  request = told.request;
-  batch = told.batch;
 }
 
 abbrev pub with_at : ℕ → Told → Told
@@ -31,26 +27,4 @@ with_at at told = record {
   bytes = told.bytes;
   reply = told.reply;
   at = at;
-  request = told.request;
-  batch = told.batch;
-}
-
-abbrev pub with_request : ℕ → Told → Told
-with_request request told = record {
-  parts = told.parts;
-  bytes = told.bytes;
-  reply = told.reply;
-  at = told.at;
-  request = request;
-  batch = told.batch;
-}
-
-abbrev pub with_batch : ℕ → Told → Told
-with_batch batch told = record {
-  parts = told.parts;
-  bytes = told.bytes;
-  reply = told.reply;
-  at = told.at;
-  request = told.request;
-  batch = batch;
 }

@@ -3,7 +3,7 @@ use Rattle.std.specs.Prelude.{◌==◌, ◌||◌, ℕ, Bool, false, List, [], �
 use Rattle.resp.specs.declared.fault.Fault.{Fault}
 use Rattle.resp.specs.declared.fault.Fault.TheVariants.{Incomplete, Malformed, TooDeep}
 use Rattle.slotroute_c.specs.declared.outcomes.Outcome.{Outcome}
-use Rattle.slotroute_c.specs.declared.outcomes.Outcome.TheVariants.{Done, NoMemory, TooSmall, RequestIncomplete, RequestMalformed, AfterRequest, NotMultiKey, ReplyIncomplete, ReplyMalformed, ReplyTooDeep, ReplyIsError, AfterReplies, Unfit, NoForm, NotText, NoRedirect, LineFeedInHost, NotRoutable, NotCovered, BadName, NotThere, NotTaken, Blocking, TooMany}
+use Rattle.slotroute_c.specs.declared.outcomes.Outcome.TheVariants.{Done, NoMemory, TooSmall, RequestIncomplete, RequestMalformed, AfterRequest, NotMultiKey, ReplyIncomplete, ReplyMalformed, ReplyTooDeep, ReplyIsError, AfterReplies, Unfit, NoForm, NotText, NoRedirect, LineFeedInHost, NotRoutable, BadName, NotThere, NotTaken, Blocking, TooMany}
 
 abbrev pub code : Outcome → ℕ
 code Done = 0
@@ -24,7 +24,6 @@ code NotText = 14
 code NoRedirect = 15
 code LineFeedInHost = 16
 code NotRoutable = 17
-code NotCovered = 18
 code BadName = 19
 code NotThere = 20
 code NotTaken = 21
@@ -49,8 +48,7 @@ text NoForm = codes "the one reply has no form"
 text NotText = codes "a text is not UTF-8"
 text NoRedirect = codes "the text is no redirect"
 text LineFeedInHost = codes "a host has a line feed"
-text NotRoutable = codes "a command goes to no single slot and is not split by slot"
-text NotCovered = codes "a slot of a command has no node"
+text NotRoutable = codes "a command goes to no node"
 text BadName = codes "a line registers no name"
 text NotThere = codes "there is none"
 text NotTaken = codes "shared links do not take this command"
@@ -78,13 +76,12 @@ message number =
     else (if number == 15 then text NoRedirect
     else (if number == 16 then text LineFeedInHost
     else (if number == 17 then text NotRoutable
-    else (if number == 18 then text NotCovered
     else (if number == 19 then text BadName
     else (if number == 20 then text NotThere
     else (if number == 21 then text NotTaken
     else (if number == 22 then text Blocking
     else (if number == 23 then text TooMany
-    else codes "no answer of this library")))))))))))))))))))))))
+    else codes "no answer of this library"))))))))))))))))))))))
 
 -- whether a number is the code of one of these outcomes
 abbrev pub is_one_of : ℕ → List Outcome → Bool

@@ -53,7 +53,6 @@ pub(super) fn code_of_answers(fault: &AnswersFault, told: &mut Told) -> u32
     match fault {
         AnswersFault::Memory => Outcome::NoMemory.code(),
         AnswersFault::Reply(number, fault) => {
-            told.batch = 0;
             told.reply = *number;
             code_of_reply(*fault)
         }

@@ -40,10 +40,8 @@ pub enum Outcome {
     /// The text is no redirect.
     NoRedirect,
     LineFeedInHost,
-    /// A command goes to no single slot, and is not split.
+    /// A command goes to no node.
     NotRoutable,
-    /// A slot has no node.
-    NotCovered,
     /// A line registers no name.
     BadName,
     /// What is asked for is not there.
@@ -80,7 +78,6 @@ impl Outcome {
             Outcome::NoRedirect => 15,
             Outcome::LineFeedInHost => 16,
             Outcome::NotRoutable => 17,
-            Outcome::NotCovered => 18,
             Outcome::BadName => 19,
             Outcome::NotThere => 20,
             Outcome::NotTaken => 21,
@@ -112,8 +109,7 @@ fn message(number: u32) -> &'static str
         14 => "a text is not UTF-8",
         15 => "the text is no redirect",
         16 => "a host has a line feed",
-        17 => "a command goes to no single slot and is not split by slot",
-        18 => "a slot of a command has no node",
+        17 => "a command goes to no node",
         19 => "a line registers no name",
         20 => "there is none",
         21 => "shared links do not take this command",

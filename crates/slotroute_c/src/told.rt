@@ -11,8 +11,4 @@ pub struct Told {
     pub reply: usize,
     /// The index of a byte.
     pub at: usize,
-    /// The number of a request.
-    pub request: usize,
-    /// The number of a batch.
-    pub batch: usize,
 }
