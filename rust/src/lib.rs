@@ -1,9 +1,14 @@
 #![doc = include_str!("../README.md")]
 
 mod ffi;
+#[macro_use]
 mod values;
+mod session;
 
 pub use ffi::{Progress, Told};
+pub use session::{
+    CallId, CallerId, LinkId, NodeId, Refusal, Reply, Session, SessionError, Settings,
+};
 use std::{error::Error, fmt, iter, mem, slice, vec};
 pub use values::{Addr, Code, Kind, Policy};
 
@@ -31,15 +36,19 @@ impl Refused {
 
 impl fmt::Display for Refused {
     fn fmt(&self, f: &mut fmt::Formatter<'_>) -> fmt::Result {
-        let mut text = [0; 100];
-        // SAFETY: the pointer and the length are those of one array.
-        let len =
-            unsafe { ffi::slotroute_message(self.code.into(), text.as_mut_ptr(), text.len()) };
-        f.write_str(&String::from_utf8_lossy(text.get(..len).unwrap_or_default()))
+        f.write_str(&message(self.code.into()))
     }
 }
 
 impl Error for Refused {}
+
+/// The text of a code.
+fn message(code: u32) -> String {
+    let mut text = [0; 100];
+    // SAFETY: the pointer and the length are those of one array.
+    let len = unsafe { ffi::slotroute_message(code, text.as_mut_ptr(), text.len()) };
+    String::from_utf8_lossy(text.get(..len).unwrap_or_default()).into_owned()
+}
 
 /// The version of the library: 200 for 0.2.0.
 pub fn version() -> u32 {
@@ -156,7 +165,7 @@ fn written(
     Ok(out)
 }
 
-/// The bytes of each part or batch, one after the other.
+/// The bytes of each part, one after the other.
 #[derive(Clone, Debug)]
 pub struct Pieces<'a> {
     bytes: &'a [u8],
@@ -336,103 +345,6 @@ pub fn table(reply: &[u8], answering: &str, addr: Addr, pick: usize) -> Result<T
     Ok(Table { numbers, nodes })
 }
 
-/// The batches of a pipeline: for each the number of its node, its commands and its bytes.
-#[derive(Clone, Debug, Default, PartialEq, Eq)]
-pub struct Batches {
-    /// The part that each reply answers, batch after batch. Parts are numbered from 0, request
-    /// after request.
-    pub places: Vec<usize>,
-    /// The number of parts of each request, 1 for a request that goes out whole.
-    pub parts: Vec<usize>,
-    nodes: Vec<u16>,
-    counts: Vec<usize>,
-    ends: Vec<usize>,
-    bytes: Vec<u8>,
-}
-
-impl Batches {
-    fn resize(&mut self, told: &Told) {
-        self.places.resize(told.reply, 0);
-        self.parts.resize(told.request, 0);
-        self.nodes.resize(told.parts, 0);
-        self.counts.resize(told.parts, 0);
-        self.ends.resize(told.parts, 0);
-        self.bytes.resize(told.bytes, 0);
-    }
-
-    /// Each batch: the number of its node, the number of its commands, and its bytes.
-    pub fn iter(&self) -> impl Iterator<Item = (u16, usize, &[u8])> {
-        let counted = self.nodes.iter().copied().zip(self.counts.iter().copied());
-        counted
-            .zip(Pieces::new(&self.bytes, &self.ends))
-            .map(|((node, count), bytes)| (node, count, bytes))
-    }
-}
-
-/// Splits requests, one after the other, into one batch for each node of a table's numbers.
-pub fn split_pipeline(requests: &[u8], names: &[u8], numbers: &[u16]) -> Result<Batches, Refused> {
-    let mut batches = Batches::default();
-    let bytes = 2 * requests.len() + 64;
-    let room = Told { parts: 16, bytes, reply: 16, request: 16, ..Told::default() };
-    let told = with_room(room, |told| {
-        batches.resize(told);
-        let Batches { places, parts, nodes, counts, ends, bytes } = &mut batches;
-        // SAFETY: as in `slot`.
-        unsafe {
-            ffi::slotroute_split_pipeline(
-                requests.as_ptr(),
-                requests.len(),
-                names.as_ptr(),
-                names.len(),
-                numbers.as_ptr(),
-                numbers.len(),
-                nodes.as_mut_ptr(),
-                nodes.len(),
-                counts.as_mut_ptr(),
-                counts.len(),
-                ends.as_mut_ptr(),
-                ends.len(),
-                places.as_mut_ptr(),
-                places.len(),
-                parts.as_mut_ptr(),
-                parts.len(),
-                bytes.as_mut_ptr(),
-                bytes.len(),
-                told,
-            )
-        }
-    })?;
-    batches.resize(&told);
-    Ok(batches)
-}
-
-/// The replies to the requests of a pipeline, by the replies to its batches, batch after batch.
-pub fn combine_pipeline(
-    requests: &[u8],
-    names: &[u8],
-    numbers: &[u16],
-    replies: &[u8],
-) -> Result<Vec<u8>, Refused> {
-    written(replies.len() + 64, |out, told| {
-        // SAFETY: as in `slot`.
-        unsafe {
-            ffi::slotroute_combine_pipeline(
-                requests.as_ptr(),
-                requests.len(),
-                names.as_ptr(),
-                names.len(),
-                numbers.as_ptr(),
-                numbers.len(),
-                replies.as_ptr(),
-                replies.len(),
-                out.as_mut_ptr(),
-                out.len(),
-                told,
-            )
-        }
-    })
-}
-
 /// A redirect: `MOVED`, or `ASK`, after which `ASKING` comes first.
 #[derive(Clone, Debug, PartialEq, Eq)]
 pub struct Redirect {
@@ -475,10 +387,6 @@ pub fn redirect(text: &[u8], answering: &str) -> Result<Option<Redirect>, Refuse
 mod tests {
     use super::*;
 
-    const PIPELINE: &[u8] =
-        b"*3\r\n$3\r\nSET\r\n$3\r\nfoo\r\n$1\r\n1\r\n*3\r\n$3\r\nSET\r\n$3\r\nbar\r\n$1\r\n2\r\n\
-        *3\r\n$4\r\nMGET\r\n$3\r\nbar\r\n$3\r\nfoo\r\n";
-
     #[test]
     fn keys_lengths_and_routes() {
         assert_eq!((version(), slot(b"foo")), (200, 12182));
@@ -507,20 +415,15 @@ mod tests {
     }
 
     #[test]
-    fn a_pipeline_by_a_table() {
+    fn tables_and_replies_of_several_nodes() {
         let reply = b"*2\r\n*3\r\n:0\r\n:8191\r\n*2\r\n$1\r\na\r\n:1\r\n\
             *3\r\n:8192\r\n:16383\r\n*2\r\n$1\r\nb\r\n:2\r\n";
         let table = table(reply, "c", Addr::Primary, 0).unwrap();
         assert_eq!(table.nodes, ["a:1", "b:2"]);
-        let batches = split_pipeline(PIPELINE, b"", &table.numbers).unwrap();
         assert_eq!(
-            batches.iter().map(|(node, count, _)| (node, count)).collect::<Vec<_>>(),
-            [(1, 2), (0, 2)]
+            ["bar", "foo"].map(|key| table.numbers[usize::from(slot(key.as_bytes()))]),
+            [0, 1]
         );
-        assert_eq!((batches.places, batches.parts), (vec![0, 3, 1, 2], vec![1, 1, 2]));
-        let replies = b"+OK\r\n*1\r\n$1\r\n1\r\n+OK\r\n*1\r\n$1\r\n2\r\n";
-        let combined = combine_pipeline(PIPELINE, b"", &table.numbers, replies).unwrap();
-        assert_eq!(combined, b"+OK\r\n+OK\r\n*2\r\n$1\r\n2\r\n$1\r\n1\r\n");
         assert_eq!(combine_answers(Policy::Sum, 2, b":3\r\n:4\r\n").unwrap(), b":7\r\n");
     }
 

@@ -68,14 +68,11 @@ numbers! {
         NoRedirect = 15,
         /// The host of a slot's node has a line feed.
         LineFeedInHost = 16,
-        /// The request of the number `told.request` goes to no single slot and is not split.
+        /// The request goes to no node, as `DEL` without a key.
         NotRoutable = 17,
-        /// A slot of that request has no node.
-        NotCovered = 18,
         /// The line of the number `told.at`, counted from 0, registers no name.
         BadName = 19,
-        /// There is none, or none of this number. Only calls of a session, in C, return this and the next
-        /// ones.
+        /// There is none, or none of this number. Only calls of a session return this and the next ones.
         NotThere = 20,
         /// A session does not take this command.
         NotTaken = 21,
