@@ -18,7 +18,7 @@ impl NodeId {
 }
 
 /// One connection to a node. A session gives the number of a link that ended to a later link. So an id
-/// also counts the links of its number, and the id of a link that ended names no later link.
+/// also has a count, and the id of a link that ended names no later link.
 #[derive(Clone, Copy, Debug, PartialEq, Eq, PartialOrd, Ord, Hash)]
 pub struct LinkId {
     number: usize,
@@ -180,7 +180,7 @@ pub struct Reply<'a> {
 /// ```
 pub struct Session {
     handle: ffi::SessionHandle,
-    /// How many links had each number.
+    /// How often a link of each number began or ended.
     counts: Vec<u64>,
     /// What `unwritten` and `next_reply` lend.
     bytes: Vec<u8>,
@@ -302,13 +302,13 @@ impl Session {
         done(unsafe { ffi::slotroute_session_unreachable(&mut self.handle, node.0) })
     }
 
-    /// The last link of a number.
+    /// The open link of a number.
     fn link(&self, number: usize) -> LinkId {
         LinkId { number, count: self.counts.get(number).copied().unwrap_or_default() }
     }
 
-    /// Whether no later link has the number of this one.
-    fn is_last(&self, link: LinkId) -> bool {
+    /// Whether a link has not ended.
+    fn is_open(&self, link: LinkId) -> bool {
         self.link(link.number) == link
     }
 
@@ -321,7 +321,7 @@ impl Session {
     /// The first bytes that are to be written on a link, at most 65536. Write them, or some of them,
     /// and then call `wrote`.
     pub fn unwritten(&mut self, link: LinkId) -> &[u8] {
-        if !self.is_last(link) {
+        if !self.is_open(link) {
             return &[];
         }
         self.make_room(ROOM);
@@ -339,7 +339,7 @@ impl Session {
     /// Notes that so many bytes more were written on a link. `NotThere`: not so many were to be
     /// written, or the link ended. Nothing changes then.
     pub fn wrote(&mut self, link: LinkId, count: usize) -> Result<(), SessionError> {
-        if !self.is_last(link) {
+        if !self.is_open(link) {
             return Err(SessionError::NotThere);
         }
         done(unsafe { ffi::slotroute_session_wrote(&mut self.handle, link.number, count) })
@@ -348,7 +348,7 @@ impl Session {
     /// Takes what was read on a link. Nothing changes if the link ended. After `NoMemory`, go on:
     /// `link_to_close` names the link if it is to be closed, and else a call without bytes goes on.
     pub fn read(&mut self, link: LinkId, bytes: &[u8]) -> Result<(), SessionError> {
-        if !self.is_last(link) {
+        if !self.is_open(link) {
             return Ok(());
         }
         done(unsafe {
@@ -356,12 +356,13 @@ impl Session {
         })
     }
 
-    /// Notes that the connection of a link ended, or was closed. After `NoMemory` the link ended, too,
-    /// and a later call asks what could not be asked.
+    /// Notes that the connection of a link ended, or was closed. Nothing changes if the link ended
+    /// before. After `NoMemory` the link ended, too, and a later call asks what could not be asked.
     pub fn ended(&mut self, link: LinkId) -> Result<(), SessionError> {
-        if !self.is_last(link) {
+        if !self.is_open(link) {
             return Ok(());
         }
+        self.counts[link.number] += 1;
         done(unsafe { ffi::slotroute_session_ended(&mut self.handle, link.number) })
     }
 
