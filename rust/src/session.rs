@@ -17,8 +17,8 @@ impl NodeId {
     }
 }
 
-/// One connection to a node. A session gives the number of a link that ended to a later link. So an id
-/// also has a count, and the id of a link that ended names no later link.
+/// One connection to a node. The id of a link that ended names no later link. So bytes that come late
+/// from an old connection reach no new one, although a session uses the numbers of links again.
 #[derive(Clone, Copy, Debug, PartialEq, Eq, PartialOrd, Ord, Hash)]
 pub struct LinkId {
     number: usize,
@@ -26,7 +26,7 @@ pub struct LinkId {
 }
 
 impl LinkId {
-    /// The number of the link. No other open link has it. It is small, so it can be an index.
+    /// The number of the link. It is small, and no other open link has it. So it can be an index.
     pub fn index(self) -> usize {
         self.number
     }
@@ -52,7 +52,8 @@ numbers! {
     SessionError {
         /// There is no memory. The call says what holds then.
         NoMemory = 1,
-        /// A session has no node, link or bytes of this number, or can know no more nodes.
+        /// There is no such node or link, or there are not so many bytes. Of `add_node`: the session
+        /// knows as many nodes as it can.
         NotThere = 20,
     }
 }
@@ -143,31 +144,33 @@ impl Default for Settings {
     }
 }
 
-/// A reply of a session to a caller.
+/// The reply of a session to a call.
 #[derive(Clone, Copy, Debug, PartialEq, Eq)]
 pub struct Reply<'a> {
     /// Who asked.
     pub caller: CallerId,
     /// What was asked.
     pub call: CallId,
-    /// The reply, an error too, as RESP2 has it.
+    /// The reply as RESP2 has it, such as `$1\r\nx\r\n`. It may be an error.
     pub bytes: &'a [u8],
 }
 
-/// A session asks the requests of many callers at the nodes that serve them, and makes their replies.
-/// It splits commands, asks for the map, and follows redirects.
+/// A client of a cluster without sockets. It takes requests of many callers, asks them at the nodes
+/// that serve them, and gives each caller its replies. It splits commands such as `MGET`, asks for the
+/// map, and follows redirects.
 ///
-/// A session opens no connection and knows no clock. Your program does that, and tells the session
-/// what happened: a connection is there or ended, bytes were written or read, time passed. Times are
-/// of your clock, in any unit.
+/// Your program connects, writes, reads and tells the time. It has to tell truly what happened. Times
+/// are of your clock, in any unit. Again and again:
 ///
-/// Again and again, call `advance`, `read` and `begin`. Then act on `link_to_close`, `next_reply`,
-/// `wanted_node` and `unwritten`, and wait until `next_time` at most. `examples/client.rs` is a whole
-/// client.
+/// 1. Call `advance` with the time, `read` with what came, and `begin` for each new request.
+/// 2. Act on `link_to_close`, `next_reply` and `wanted_node` until they return `None`.
+/// 3. Write what `unwritten` has for each link, and call `wrote`.
+/// 4. Wait for a socket, until `next_time` at most.
 ///
-/// A session may move to another thread. Dropping it closes it, and callers that wait get no reply.
+/// `examples/client.rs` is a whole client. A session may move to another thread. If it is dropped,
+/// callers that wait get no reply.
 ///
-/// A reply is borrowed up to the next call:
+/// A reply is borrowed until the next call of the session:
 ///
 /// ```compile_fail
 /// # fn main() -> Result<(), slotroute::SessionError> {
@@ -220,7 +223,7 @@ fn named<T: Default>(call: impl FnOnce(&mut T) -> u32) -> Option<T> {
 // SAFETY of each call below: the handle is open, and `&mut self` keeps others from it. A pointer and a
 // length are those of one slice, and nothing that is written overlaps anything else.
 impl Session {
-    /// Opens a session without nodes, links and calls.
+    /// Opens a session without nodes, links and calls. `NoMemory`: there is no session.
     pub fn open(settings: &Settings) -> Result<Self, SessionError> {
         let mut handle = ffi::SessionHandle::default();
         let own = ffi::SessionSettings {
@@ -238,8 +241,8 @@ impl Session {
         Ok(Session { handle, counts: Vec::new(), bytes: Vec::new() })
     }
 
-    /// Adds a node, which needs a link then. A node that is known keeps its id. `NotThere`: 65534
-    /// nodes are known.
+    /// Adds a node. It needs a link then. A node that is known keeps its id. `NotThere`: 65534 nodes are
+    /// known. After an error the node is not added.
     pub fn add_node(&mut self, host: &str, port: u16) -> Result<NodeId, SessionError> {
         let mut node = 0;
         done(unsafe {
@@ -254,15 +257,15 @@ impl Session {
         Ok(NodeId(node))
     }
 
-    /// A node that needs a link. Each is named once: connect to it, and then call `connected` or
+    /// A node that needs a link. Each is named once. Connect to it, and then call `connected` or
     /// `unreachable`.
     pub fn wanted_node(&mut self) -> Option<NodeId> {
         named(|node| unsafe { ffi::slotroute_session_wanted_node(&mut self.handle, node) })
             .map(NodeId)
     }
 
-    /// The host and the port of a node, as `TcpStream::connect` takes them. `None`: another session
-    /// named the node.
+    /// The host and the port of a node, as `TcpStream::connect` takes them. `None`: this session has no
+    /// such node.
     pub fn address(&mut self, node: NodeId) -> Option<(String, u16)> {
         let (mut told, mut host) = (ffi::SessionAddress::default(), vec![0; 64]);
         loop {
@@ -284,8 +287,8 @@ impl Session {
         }
     }
 
-    /// Notes a new connection to a node. After an error there is no link, and the connection is to be
-    /// closed.
+    /// Notes a new connection to a node, and makes a link of it. After an error there is no link: close
+    /// the connection.
     pub fn connected(&mut self, node: NodeId) -> Result<LinkId, SessionError> {
         let mut number = 0;
         done(unsafe { ffi::slotroute_session_connected(&mut self.handle, node.0, &mut number) })?;
@@ -312,14 +315,15 @@ impl Session {
         self.link(link.number) == link
     }
 
-    /// A link on which something was asked. It has bytes to be written, and is named once after that.
+    /// A link on which something was asked, so it has bytes to be written. It is named once, and again
+    /// if more is asked.
     pub fn link_to_write(&mut self) -> Option<LinkId> {
         named(|link| unsafe { ffi::slotroute_session_link_to_write(&mut self.handle, link) })
             .map(|number| self.link(number))
     }
 
-    /// The first bytes that are to be written on a link, at most 65536. Write them, or some of them,
-    /// and then call `wrote`.
+    /// The first bytes that are to be written on a link, at most 65536. Write them, or as many as the
+    /// socket takes. Then call `wrote`.
     pub fn unwritten(&mut self, link: LinkId) -> &[u8] {
         if !self.is_open(link) {
             return &[];
@@ -345,8 +349,8 @@ impl Session {
         done(unsafe { ffi::slotroute_session_wrote(&mut self.handle, link.number, count) })
     }
 
-    /// Takes what was read on a link. Nothing changes if the link ended. After `NoMemory`, go on:
-    /// `link_to_close` names the link if it is to be closed, and else a call without bytes goes on.
+    /// Takes what was read on a link. Nothing changes if the link ended. After `NoMemory`,
+    /// `link_to_close` may name the link. If it does not, call `read` without bytes to go on.
     pub fn read(&mut self, link: LinkId, bytes: &[u8]) -> Result<(), SessionError> {
         if !self.is_open(link) {
             return Ok(());
@@ -357,7 +361,7 @@ impl Session {
     }
 
     /// Notes that the connection of a link ended, or was closed. Nothing changes if the link ended
-    /// before. After `NoMemory` the link ended, too, and a later call asks what could not be asked.
+    /// before. After `NoMemory` the link ended, too. A later call asks what could not be asked.
     pub fn ended(&mut self, link: LinkId) -> Result<(), SessionError> {
         if !self.is_open(link) {
             return Ok(());
@@ -372,8 +376,9 @@ impl Session {
             .map(|number| self.link(number))
     }
 
-    /// Begins a call: the request of a caller. If its reply is not there at the deadline, the reply is
-    /// an error. A refused request changes nothing, and `Refusal::reply` has the reply for the client.
+    /// Begins a call: a request of a caller, such as `*2\r\n$3\r\nGET\r\n$3\r\nfoo\r\n`. If its reply is
+    /// not there at the deadline, the reply is an error. A refused request changes nothing.
+    /// `Refusal::reply` has the reply for the client.
     pub fn begin(
         &mut self,
         caller: CallerId,
@@ -397,13 +402,12 @@ impl Session {
         }
     }
 
-    /// Notes that the caller waits no more for the reply to a call, and returns whether it waited. It
-    /// gets no reply then.
+    /// Gives a call up: its caller gets no reply to it. Returns whether the caller waited.
     pub fn give_up(&mut self, call: CallId) -> bool {
         unsafe { ffi::slotroute_session_give_up(&mut self.handle, call.0) == DONE }
     }
 
-    /// Notes what time it is. A time before the last one counts as the last one. After `NoMemory` a
+    /// Notes what time it is. A time before the last one counts as the last one. After `NoMemory`, a
     /// later call asks what could not be asked.
     pub fn advance(&mut self, now: u64) -> Result<(), SessionError> {
         done(unsafe { ffi::slotroute_session_advance(&mut self.handle, now) })
@@ -414,8 +418,8 @@ impl Session {
         named(|time| unsafe { ffi::slotroute_session_next_time(&mut self.handle, time) })
     }
 
-    /// The next reply to a caller, or `None` if no reply is there. A caller's replies come in the
-    /// order of its calls. After `NoMemory` the same reply comes next.
+    /// The next reply, or `None` if no reply is there. A caller's replies come in the order of its
+    /// calls. After `NoMemory`, the same reply comes next.
     pub fn next_reply(&mut self) -> Result<Option<Reply<'_>>, SessionError> {
         let mut due = ffi::SessionReply::default();
         match done(unsafe { ffi::slotroute_session_next_reply(&mut self.handle, &mut due) }) {
