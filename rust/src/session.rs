@@ -220,8 +220,6 @@ fn named<T: Default>(call: impl FnOnce(&mut T) -> u32) -> Option<T> {
     (call(&mut name) == DONE).then_some(name)
 }
 
-// SAFETY of each call below: the handle is open, and `&mut self` keeps others from it. A pointer and a
-// length are those of one slice, and nothing that is written overlaps anything else.
 impl Session {
     /// Opens a session without nodes, links and calls. `NoMemory`: there is no session.
     pub fn open(settings: &Settings) -> Result<Self, SessionError> {
@@ -235,6 +233,8 @@ impl Session {
             retries: settings.retries,
         };
         let login = settings.login.as_slice();
+        // SAFETY: a pointer and a length are those of one slice, and nothing that is written overlaps
+        // anything else. In the calls below the handle is open, too, and `&mut self` keeps others from it.
         done(unsafe {
             ffi::slotroute_session_open(&own, login.as_ptr(), login.len(), &mut handle)
         })?;
@@ -245,6 +245,7 @@ impl Session {
     /// known. After an error the node is not added.
     pub fn add_node(&mut self, host: &str, port: u16) -> Result<NodeId, SessionError> {
         let mut node = 0;
+        // SAFETY: as in `open`.
         done(unsafe {
             ffi::slotroute_session_add_node(
                 &mut self.handle,
@@ -260,6 +261,7 @@ impl Session {
     /// A node that needs a link. Each is named once. Connect to it, and then call `connected` or
     /// `unreachable`.
     pub fn wanted_node(&mut self) -> Option<NodeId> {
+        // SAFETY: as in `open`.
         named(|node| unsafe { ffi::slotroute_session_wanted_node(&mut self.handle, node) })
             .map(NodeId)
     }
@@ -269,6 +271,7 @@ impl Session {
     pub fn address(&mut self, node: NodeId) -> Option<(String, u16)> {
         let (mut told, mut host) = (ffi::SessionAddress::default(), vec![0; 64]);
         loop {
+            // SAFETY: as in `open`.
             let code = unsafe {
                 ffi::slotroute_session_address(
                     &mut self.handle,
@@ -291,6 +294,7 @@ impl Session {
     /// the connection.
     pub fn connected(&mut self, node: NodeId) -> Result<LinkId, SessionError> {
         let mut number = 0;
+        // SAFETY: as in `open`.
         done(unsafe { ffi::slotroute_session_connected(&mut self.handle, node.0, &mut number) })?;
         if number >= self.counts.len() {
             self.counts.resize(number + 1, 0);
@@ -302,6 +306,7 @@ impl Session {
     /// Notes that no connection to a node could be made. After a pause `wanted_node` names it again
     /// if it is still needed.
     pub fn unreachable(&mut self, node: NodeId) -> Result<(), SessionError> {
+        // SAFETY: as in `open`.
         done(unsafe { ffi::slotroute_session_unreachable(&mut self.handle, node.0) })
     }
 
@@ -318,6 +323,7 @@ impl Session {
     /// A link on which something was asked, so it has bytes to be written. It is named once, and again
     /// if more is asked.
     pub fn link_to_write(&mut self) -> Option<LinkId> {
+        // SAFETY: as in `open`.
         named(|link| unsafe { ffi::slotroute_session_link_to_write(&mut self.handle, link) })
             .map(|number| self.link(number))
     }
@@ -329,6 +335,7 @@ impl Session {
             return &[];
         }
         self.make_room(ROOM);
+        // SAFETY: as in `open`.
         let len = unsafe {
             ffi::slotroute_session_unwritten(
                 &mut self.handle,
@@ -346,6 +353,7 @@ impl Session {
         if !self.is_open(link) {
             return Err(SessionError::NotThere);
         }
+        // SAFETY: as in `open`.
         done(unsafe { ffi::slotroute_session_wrote(&mut self.handle, link.number, count) })
     }
 
@@ -355,6 +363,7 @@ impl Session {
         if !self.is_open(link) {
             return Ok(());
         }
+        // SAFETY: as in `open`.
         done(unsafe {
             ffi::slotroute_session_read(&mut self.handle, link.number, bytes.as_ptr(), bytes.len())
         })
@@ -367,11 +376,13 @@ impl Session {
             return Ok(());
         }
         self.counts[link.number] += 1;
+        // SAFETY: as in `open`.
         done(unsafe { ffi::slotroute_session_ended(&mut self.handle, link.number) })
     }
 
     /// A link that is to be closed. It is named until `ended` is called for it.
     pub fn link_to_close(&mut self) -> Option<LinkId> {
+        // SAFETY: as in `open`.
         named(|link| unsafe { ffi::slotroute_session_link_to_close(&mut self.handle, link) })
             .map(|number| self.link(number))
     }
@@ -386,6 +397,7 @@ impl Session {
         deadline: u64,
     ) -> Result<CallId, Refusal> {
         let mut call = 0;
+        // SAFETY: as in `open`.
         let code = unsafe {
             ffi::slotroute_session_begin(
                 &mut self.handle,
@@ -404,17 +416,20 @@ impl Session {
 
     /// Gives a call up: its caller gets no reply to it. Returns whether the caller waited.
     pub fn give_up(&mut self, call: CallId) -> bool {
+        // SAFETY: as in `open`.
         unsafe { ffi::slotroute_session_give_up(&mut self.handle, call.0) == DONE }
     }
 
     /// Notes what time it is. A time before the last one counts as the last one. After `NoMemory`, a
     /// later call asks what could not be asked.
     pub fn advance(&mut self, now: u64) -> Result<(), SessionError> {
+        // SAFETY: as in `open`.
         done(unsafe { ffi::slotroute_session_advance(&mut self.handle, now) })
     }
 
     /// The time at which `advance` is to be called next, or `None` if nothing waits for a time.
     pub fn next_time(&mut self) -> Option<u64> {
+        // SAFETY: as in `open`.
         named(|time| unsafe { ffi::slotroute_session_next_time(&mut self.handle, time) })
     }
 
@@ -422,11 +437,13 @@ impl Session {
     /// calls. After `NoMemory`, the same reply comes next.
     pub fn next_reply(&mut self) -> Result<Option<Reply<'_>>, SessionError> {
         let mut due = ffi::SessionReply::default();
+        // SAFETY: as in `open`.
         match done(unsafe { ffi::slotroute_session_next_reply(&mut self.handle, &mut due) }) {
             Err(SessionError::NotThere) => return Ok(None),
             other => other?,
         }
         self.make_room(due.bytes);
+        // SAFETY: as in `open`.
         let len = unsafe {
             ffi::slotroute_session_reply(
                 &mut self.handle,
