@@ -14,7 +14,7 @@ from __future__ import annotations
 
 import ctypes
 from ctypes import POINTER, byref, c_char, c_char_p, c_size_t, c_uint16, c_uint32, c_uint64
-from itertools import islice, pairwise
+from itertools import pairwise
 from os import PathLike
 from typing import Any, Callable, Sequence
 
@@ -34,7 +34,6 @@ SLOTS, NO_NODE = 16384, 65535
 BYTES_IN = [c_char_p, c_size_t]
 BYTES_OUT = [c_char_p, c_size_t]
 Data = bytes | bytearray
-Numbers = list[int] | ctypes.Array[c_uint16]
 
 if _lacking := processor_lacks():
     raise ImportError(
@@ -124,8 +123,6 @@ class Library:
             ("combine", BYTES_IN * 3 + BYTES_OUT + told, c_uint32),
             ("combine_answers", [c_uint32, c_size_t, *BYTES_IN, *BYTES_OUT, *told], c_uint32),
             ("table", BYTES_IN * 2 + [c_uint32, c_size_t] + slots + BYTES_OUT + told, c_uint32),
-            ("split_pipeline", BYTES_IN * 2 + slots * 2 + ends * 4 + BYTES_OUT + told, c_uint32),
-            ("combine_pipeline", BYTES_IN * 2 + slots + BYTES_IN + BYTES_OUT + told, c_uint32),
             ("redirect", [*BYTES_IN, *BYTES_IN, *BYTES_OUT, POINTER(Redirected)], c_uint32),
         )
         for name, takes, gives in calls:
@@ -240,45 +237,6 @@ class Library:
             (host, int(port)) for host, _, port in (it.rpartition(":") for it in lines)
         ]
 
-    def split_pipeline(
-        self, requests: bytes, numbers: Numbers
-    ) -> tuple[list[tuple[int, list[int], bytes]], list[int]]:
-        """The batches of requests that stand one after the other, and how many parts each request
-        has. For each batch the number of its node, the numbers of its parts, and its bytes. Parts
-        are numbered from 0, request after request. `numbers` are those of `table`, or of
-        `slot_numbers`, which saves making them anew."""
-        numbers = slot_numbers(numbers)
-        batches, sent, asked, room, told = 16, 16, 16, 2 * len(requests) + 64, Told()
-        while True:
-            nodes, counts, ends = (
-                (c_uint16 * batches)(),
-                (c_size_t * batches)(),
-                (c_size_t * batches)(),
-            )
-            places, parts = (c_size_t * sent)(), (c_size_t * asked)()
-            out = ctypes.create_string_buffer(room)
-            answer = self.lib.slotroute_split_pipeline(
-                requests, len(requests), *self.names, numbers, len(numbers), nodes, batches,
-                counts, batches, ends, batches, places, sent, parts, asked, out, room, byref(told),
-            )  # fmt: skip
-            if answer != TOO_SMALL:
-                break
-            batches, sent, asked, room = told.parts, told.reply, told.request, told.bytes
-        self._expect_done(answer, told)
-        data, left = out.raw, iter(places)
-        starts = [0, *ends[: told.parts]]
-        own = [list(islice(left, count)) for count in counts[: told.parts]]
-        made = [(node, them, data[a:b]) for node, them, (a, b) in zip(nodes, own, pairwise(starts))]
-        return made, parts[: told.request]
-
-    def combine_pipeline(
-        self, requests: bytes, numbers: Numbers, replies: Sequence[bytes]
-    ) -> bytes:
-        """The replies to the requests, by the replies to the batches, batch after batch."""
-        numbers, joined = slot_numbers(numbers), b"".join(replies)
-        data = requests, len(requests), *self.names, numbers, len(numbers), joined, len(joined)
-        return self._written(self.lib.slotroute_combine_pipeline, data, len(joined) + 64)
-
     def redirect(self, text: bytes, answering: bytes) -> tuple[Redirected, str] | None:
         """What the text of an error tells of a redirect, with its host; None of another text."""
         told, host = Redirected(), ctypes.create_string_buffer(len(text) + len(answering) + 1)
@@ -305,11 +263,6 @@ class Library:
     def _expect_done(self, answer: int, told: Told) -> None:
         if answer:
             raise Refused(answer, self.message(answer), told)
-
-
-def slot_numbers(numbers: Numbers) -> ctypes.Array[c_uint16]:
-    """A table's numbers as the calls of pipelines take them."""
-    return (c_uint16 * SLOTS)(*numbers) if isinstance(numbers, list) else numbers
 
 
 def request(*words: bytes | str | int) -> bytes:

@@ -1,11 +1,11 @@
-"""Splits a request and a pipeline, and combines replies to them.
+"""Splits a request, and combines replies to its parts.
 
     python3 -m slotroute [LIBRARY]
 """
 
 import sys
 
-from . import Library, Refused, request, slot_numbers
+from . import Library, Refused, request
 
 
 def main() -> None:
@@ -16,13 +16,6 @@ def main() -> None:
         print(slot, part)
     replies = [b"*2\r\n$1\r\nx\r\n$1\r\nx\r\n", b"*1\r\n$-1\r\n"]
     print(library.combine(asked, replies))
-    asked = request("SET", "foo", 1) + request("SET", "bar", 2) + request("MGET", "bar", "foo")
-    numbers = slot_numbers([0] * 8192 + [1] * 8192)
-    batches, _ = library.split_pipeline(asked, numbers)
-    for node, places, batch in batches:
-        print("node", node, len(places), "commands", len(batch), "bytes")
-    replies = [b"+OK\r\n*1\r\n$1\r\n1\r\n", b"+OK\r\n*1\r\n$1\r\n2\r\n"]
-    print(library.combine_pipeline(asked, numbers, replies))
     routed = library.route(request("KEYS", "*"))
     print(library.combine_answers(routed.policy, [b"*1\r\n$3\r\nfoo\r\n", b"*1\r\n$3\r\nbar\r\n"]))
     if moved := library.redirect(b"MOVED 3999 127.0.0.1:6381", b"n1"):
