@@ -8,6 +8,9 @@
 
 Requests and replies are bytes of the Redis protocol, RESP2. The page for callers in C says what
 each call does.
+
+`Cluster` is a client over sockets, and `slotroute.aio.Cluster` is one for asyncio. Both stand on a
+`Session`, which has no sockets.
 """
 
 from __future__ import annotations
@@ -24,15 +27,26 @@ from ._shared import library_path, processor_lacks
 DONE, NO_MEMORY, TOO_SMALL, REQUEST_INCOMPLETE, REQUEST_MALFORMED, AFTER_REQUEST = range(6)
 NOT_MULTI_KEY, REPLY_INCOMPLETE, REPLY_MALFORMED, REPLY_TOO_DEEP, REPLY_IS_ERROR = range(6, 11)
 AFTER_REPLIES, UNFIT, NO_FORM, NOT_TEXT, NO_REDIRECT, LINE_FEED_IN_HOST = range(11, 17)
-NOT_ROUTABLE, NOT_COVERED, BAD_NAME, NOT_THERE, NOT_TAKEN, BLOCKING, TOO_MANY = range(17, 24)
+NOT_ROUTABLE, BAD_NAME = 17, 19
+NOT_THERE, NOT_TAKEN, BLOCKING, TOO_MANY = range(20, 24)
 GOES_NOWHERE, TO_ANY, TO_ANY_PRIMARY, TO_SLOT, TO_ALL, TO_ALL_PRIMARIES, TO_SLOTS = range(7)
 PRIMARY, REPLICA_OPTIONAL, REPLICA = range(3)
 NO_POLICY, ONE_SUCCEEDED, FIRST_NOT_EMPTY, ALL_SUCCEEDED, BITS_AND, BITS_OR = range(6)
 LEAST, SUM, ARRAYS, SPECIAL, MAPS = range(6, 11)
 MOVED, ASK = 1, 2
 SLOTS, NO_NODE = 16384, 65535
-BYTES_IN = [c_char_p, c_size_t]
-BYTES_OUT = [c_char_p, c_size_t]
+# The names of the codes, by their numbers.
+CODES: dict[int, str] = {
+    globals()[name]: name
+    for name in (
+        "DONE NO_MEMORY TOO_SMALL REQUEST_INCOMPLETE REQUEST_MALFORMED AFTER_REQUEST NOT_MULTI_KEY "
+        "REPLY_INCOMPLETE REPLY_MALFORMED REPLY_TOO_DEEP REPLY_IS_ERROR AFTER_REPLIES UNFIT NO_FORM "
+        "NOT_TEXT NO_REDIRECT LINE_FEED_IN_HOST NOT_ROUTABLE BAD_NAME NOT_THERE NOT_TAKEN BLOCKING "
+        "TOO_MANY"
+    ).split()
+}
+BYTES_IN: list[Any] = [c_char_p, c_size_t]
+BYTES_OUT: list[Any] = [c_char_p, c_size_t]
 Data = bytes | bytearray
 
 if _lacking := processor_lacks():
@@ -54,9 +68,7 @@ class Told(Fields):
     bytes: int
     reply: int
     at: int
-    request: int
-    batch: int
-    _fields_ = [(name, c_size_t) for name in ("parts", "bytes", "reply", "at", "request", "batch")]
+    _fields_ = [(name, c_size_t) for name in ("parts", "bytes", "reply", "at")]
 
 
 class Routed(Fields):
@@ -94,7 +106,11 @@ class Refused(Exception):
     def __init__(self, answer: int, text: str, told: Told) -> None:
         super().__init__(text)
         self.answer, self.reply, self.at = answer, told.reply, told.at
-        self.request, self.batch = told.request, told.batch
+
+    @property
+    def name(self) -> str:
+        """The name of the code, as `NOT_TAKEN`."""
+        return CODES.get(self.answer, str(self.answer))
 
 
 class Library:
@@ -265,7 +281,26 @@ class Library:
             raise Refused(answer, self.message(answer), told)
 
 
-def request(*words: bytes | str | int) -> bytes:
-    """The bytes of a request."""
-    encoded = [it if isinstance(it, bytes) else str(it).encode() for it in words]
+def request(*words: bytes | str | int | float) -> bytes:
+    """The bytes of a request. A number is written as Python writes it. A word of another type is a
+    `TypeError`, also `None`, `True` and `False`."""
+    encoded = [it if isinstance(it, bytes) else _encoded(it) for it in words]
     return b"*%d\r\n" % len(encoded) + b"".join(b"$%d\r\n%s\r\n" % (len(it), it) for it in encoded)
+
+
+def _encoded(word: Any) -> bytes:
+    """A word of a request as bytes."""
+    if isinstance(word, str):
+        return word.encode()
+    if isinstance(word, (bytearray, memoryview)):
+        return bytes(word)
+    if isinstance(word, (int, float)) and not isinstance(word, bool):
+        return str(word).encode()
+    raise TypeError(f"a request has no word of the type {type(word).__name__}")
+
+
+# These need the names above.
+from .cluster import Cluster as Cluster  # noqa: E402
+from .cluster import Pipeline as Pipeline  # noqa: E402
+from .session import Reply as Reply  # noqa: E402
+from .session import Session as Session  # noqa: E402
