@@ -256,11 +256,125 @@ static void time_the_rest(void) {
     free(map.bytes);
 }
 
+enum { LINKS = 100, CALLS = 10000, ROOM = 1 << 20 };
+
+/* A session over links whose nodes have neighbouring slots, and what its shell has. */
+typedef struct shell {
+    slotroute_session session;
+    text map, replies, written, big;
+} shell;
+
+/* Answers all that was asked, with replies of 11 bytes to requests of one length. */
+static void answer_links(shell *it, size_t request_len) {
+    size_t link;
+    while (slotroute_session_link_to_write(&it->session, &link) == SLOTROUTE_DONE) {
+        size_t len = slotroute_session_unwritten(&it->session, link, it->written.bytes, ROOM);
+        slotroute_session_wrote(&it->session, link, len);
+        slotroute_session_read(&it->session, link, it->replies.bytes, len / request_len * 11);
+    }
+}
+
+/* Opens a session, connects its links and answers with the map. */
+static shell shell_of(size_t nodes) {
+    slotroute_session_settings settings = {1 << 25, CALLS, 1 << 30, 0, 10, 16};
+    shell it = {{NULL}, some_room(nodes * 80 + 64), some_room(CALLS * 11 + 16), some_room(ROOM), some_room(1 << 25)};
+    size_t node, link;
+    add(&it.map, "*%zu\r\n", nodes);
+    for (size_t i = 0; i < nodes; i++) {
+        add(&it.map, "*3\r\n:%zu\r\n", i * SLOTROUTE_SLOTS / nodes);
+        add(&it.map, ":%zu\r\n", (i + 1) * SLOTROUTE_SLOTS / nodes - 1);
+        add(&it.map, "*2\r\n$9\r\n127.0.0.1\r\n:%zu\r\n", 7000 + i);
+    }
+    for (size_t i = 0; i < CALLS; i++) add(&it.replies, "$5\r\nvalue\r\n", i);
+    if (slotroute_session_open(&settings, NULL, 0, &it.session) != SLOTROUTE_DONE) exit(3);
+    for (size_t i = 0; i < nodes; i++)
+        slotroute_session_add_node(&it.session, (const uint8_t *)"127.0.0.1", 9, (uint16_t)(7000 + i), &node);
+    slotroute_session_advance(&it.session, 1);
+    while (slotroute_session_wanted_node(&it.session, &node) == SLOTROUTE_DONE)
+        slotroute_session_connected(&it.session, node, &link);
+    while (slotroute_session_link_to_write(&it.session, &link) == SLOTROUTE_DONE) {
+        slotroute_session_wrote(&it.session, link, slotroute_session_unwritten(&it.session, link, NULL, 0));
+        slotroute_session_read(&it.session, link, it.map.bytes, it.map.len);
+    }
+    return it;
+}
+
+static void free_shell(shell *it) {
+    slotroute_session_close(it->session);
+    free(it->map.bytes);
+    free(it->replies.bytes);
+    free(it->written.bytes);
+    free(it->big.bytes);
+}
+
+/* Takes all replies that are there, and returns how many there were. */
+static size_t take_replies(shell *it) {
+    slotroute_due_reply due;
+    size_t count = 0;
+    for (; slotroute_session_next_reply(&it->session, &due) == SLOTROUTE_DONE; count++)
+        sink += slotroute_session_reply(&it->session, it->big.bytes, 1 << 25);
+    return count;
+}
+
+/* Each of some callers asks one GET, all are answered, and all replies are taken. */
+static void ask_gets(shell *it, size_t callers) {
+    uint64_t call;
+    char request[64];
+    int len = 0;
+    for (size_t i = 0; i < callers; i++) {
+        len = sprintf(request, "*2\r\n$3\r\nGET\r\n$8\r\nkey:%04zu\r\n", i % CALLS);
+        slotroute_session_begin(&it->session, i, (const uint8_t *)request, (size_t)len, 1000, &call);
+    }
+    answer_links(it, (size_t)len);
+    if (take_replies(it) == callers) return;
+    fputs("a session gives too few replies\n", stderr);
+    exit(1);
+}
+
+/* A reply of so many bytes comes in pieces of 64 KB. */
+static void read_in_pieces(shell *it, size_t bytes, const text *reply) {
+    uint64_t call;
+    size_t link;
+    const char *request = "*2\r\n$3\r\nGET\r\n$3\r\nkey\r\n";
+    slotroute_session_begin(&it->session, 1, (const uint8_t *)request, strlen(request), 1000, &call);
+    slotroute_session_link_to_write(&it->session, &link);
+    slotroute_session_wrote(&it->session, link, strlen(request));
+    for (size_t at = 0; at < reply->len; at += 65536)
+        slotroute_session_read(&it->session, link, reply->bytes + at, reply->len - at < 65536 ? reply->len - at : 65536);
+    if (take_replies(it) == 1 && reply->len > bytes) return;
+    fputs("a session does not give a long reply\n", stderr);
+    exit(1);
+}
+
+static void time_sessions(void) {
+    double own;
+    for (size_t nodes = 1; nodes <= LINKS; nodes *= LINKS) {
+        shell it = shell_of(nodes);
+        for (size_t callers = 1; callers <= CALLS; callers *= 100) {
+            LEAST(own, 4000 / callers + 1, ask_gets(&it, callers));
+            printf("| a GET of a session, %zu links | %zu callers | %.0f | | |\n", nodes, callers, own / (double)callers);
+        }
+        free_shell(&it);
+    }
+    shell it = shell_of(1);
+    for (size_t bytes = 1 << 20; bytes <= 1 << 24; bytes *= 16) {
+        text reply = some_room(bytes + 64);
+        add(&reply, "$%zu\r\n", bytes);
+        reply.len += bytes + 2;
+        memcpy(reply.bytes + reply.len - 2, "\r\n", 2);
+        LEAST(own, 3, read_in_pieces(&it, bytes, &reply));
+        row("a reply of a session, in pieces of 64 KB", bytes, own, 0, 0);
+        free(reply.bytes);
+    }
+    free_shell(&it);
+}
+
 int main(void) {
     puts("| call | size | nanoseconds | careful Rust (ratio) | hiredis |\n|---|---|---|---|---|");
     time_reading();
     time_splitting();
     time_combining();
     time_the_rest();
+    time_sessions();
     return 0;
 }
