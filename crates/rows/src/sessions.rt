@@ -7,7 +7,10 @@ ghost use Rattle.session_core.specs.declared.link.Standing.TheVariants.{Open};
 mod parts;
 
 use crate::sessions::parts::can_begin;
-use fixtures::{bad_row, bytes, cut, debug, number, okay, pieces, plain, push_next, two};
+use fixtures::{
+    bad_row, bytes, cut, debug, debug_result, done, number, okay, pieces, plain, push_next, two,
+    two_numbers,
+};
 use resp_core::RedisResult;
 use session_core::{PartOrder, Standing};
 use session_machine::{Call, Machine, Part};
@@ -17,20 +20,38 @@ use std::alloc::Global;
 pub fn call(session: &mut Machine, alloc: Global, name: &str, words: &str) -> RedisResult<String> {
     let (first, rest) = two(words);
     match name {
-        "session" => *session = Machine::new(alloc),
-        "open" => return debug(alloc, &session.open(alloc, number(words)?)?),
-        "begin" => return begin(session, alloc, number(first)?, rest),
-        "give-up" => return debug(alloc, &session.give_up(number(words)?)),
-        "end-part" => return end_part(session, alloc, first, rest),
-        "overtaken" => return overtaken(session, alloc, number(first)?, number(rest)?),
-        "next" => return debug(alloc, &session.next_call(number(words)?)),
-        "finish" => return finish(session, alloc, number(words)?),
-        "leave" => return debug(alloc, &session.leave(alloc, number(words)?)),
-        "trim" => return debug(alloc, &session.trim()),
-        "part" => return phase(session, alloc, words),
-        _ => return on_link(session, alloc, name, number(first)?, rest),
+        "session" => restart(session, alloc),
+        "trim" => debug(alloc, &session.trim()),
+        "part" => phase(session, alloc, words),
+        "end-part" => end_part(session, alloc, first, rest),
+        _ => on_number(session, alloc, name, number(first)?, rest),
     }
+}
+
+fn restart(session: &mut Machine, alloc: Global) -> RedisResult<String> {
+    *session = Machine::new(alloc);
     okay(alloc)
+}
+
+/// What a call of this name returns that begins with a number: of a call, a caller or a link.
+fn on_number(
+    session: &mut Machine,
+    alloc: Global,
+    name: &str,
+    number: usize,
+    words: &str,
+) -> RedisResult<String> {
+    let call = number as u64;
+    match name {
+        "open" => debug_result(alloc, session.open(alloc, number)),
+        "begin" => begin(session, alloc, call, words),
+        "give-up" => debug(alloc, &session.give_up(call)),
+        "overtaken" => overtaken(session, alloc, call, words),
+        "next" => debug(alloc, &session.next_call(call)),
+        "finish" => finish(session, alloc, call),
+        "leave" => debug(alloc, &session.leave(alloc, call)),
+        _ => on_link(session, alloc, name, number, words),
+    }
 }
 
 /// What a call of this name returns that names a link.
@@ -45,7 +66,7 @@ fn on_link(
         "standing" => debug(alloc, &session.standing(link)),
         "unwritten" => debug(alloc, &session.unwritten(link)),
         "forget" => debug(alloc, &session.forget(link)),
-        "wrote" => wrote(session, alloc, link, number(words)?),
+        "wrote" => wrote(session, alloc, link, words),
         "end" => end(session, alloc, link),
         "lose" => lose(session, alloc, link),
         _ => on_open(session, alloc, name, link, words),
@@ -63,30 +84,40 @@ fn on_open(
     let Some(Standing::Open) = session.standing(link) else {
         return Err(bad_row("not on a link that stands so"));
     };
-    let (call, part) = cut(words, ".");
     match name {
-        "hear" => session.hear(link, &bytes(alloc, words)?)?,
-        "login" => login(session, link, &bytes(alloc, words)?)?,
-        "map" => map(session, alloc, link, words)?,
-        "take" => return debug(alloc, &session.take(alloc, link)?),
-        "ask" => return debug(alloc, &session.ask(link, number(call)?, number(part)?)?),
-        "asking" => return debug(
-            alloc,
-            &session.ask_asking(link, number(call)?, number(part)?)?,
-        ),
-        _ => return Err(bad_row("no call of this name")),
+        "hear" => done(alloc, session.hear(link, &bytes(alloc, words)?)),
+        "login" => done(alloc, login(session, alloc, link, words)),
+        "map" => done(alloc, map(session, alloc, link, words)),
+        "take" => debug_result(alloc, session.take(alloc, link)),
+        "ask" => ask(session, alloc, link, words),
+        "asking" => ask_asking(session, alloc, link, words),
+        _ => Err(bad_row("no call of this name")),
     }
-    okay(alloc)
+}
+
+fn ask(session: &mut Machine, alloc: Global, link: usize, seat: &str) -> RedisResult<String>
+    requires { (c : Channel) × IsLink session.old link c × (c.standing ≡ Open) }
+{
+    let (call, part) = two_numbers(seat, ".")?;
+    debug_result(alloc, session.ask(link, call, part))
+}
+
+fn ask_asking(session: &mut Machine, alloc: Global, link: usize, seat: &str) -> RedisResult<String>
+    requires { (c : Channel) × IsLink session.old link c × (c.standing ≡ Open) }
+{
+    let (call, part) = two_numbers(seat, ".")?;
+    debug_result(alloc, session.ask_asking(link, call, part))
 }
 
 /// Asks the login of a link.
-fn login(session: &mut Machine, link: usize, request: &[u8]) -> RedisResult<()>
+fn login(session: &mut Machine, alloc: Global, link: usize, word: &str) -> RedisResult<()>
     requires { (c : Channel) × IsLink session.old link c × (c.standing ≡ Open) }
 {
+    let request = bytes(alloc, word)?;
     if request.is_empty() {
         return Err(bad_row("no request"));
     }
-    Ok(session.ask_login(link, request)?)
+    Ok(session.ask_login(link, &request)?)
 }
 
 /// Asks for a map after so many `MOVED`.
@@ -102,7 +133,8 @@ fn map(session: &mut Machine, alloc: Global, link: usize, words: &str) -> RedisR
 }
 
 /// Notes that bytes were written, if there are so many.
-fn wrote(session: &mut Machine, alloc: Global, link: usize, count: usize) -> RedisResult<String> {
+fn wrote(session: &mut Machine, alloc: Global, link: usize, count: &str) -> RedisResult<String> {
+    let count = number(count)?;
     let (Some(Standing::Open) | Some(Standing::Broken)) = session.standing(link) else {
         return Err(bad_row("not on a link that stands so"));
     };
@@ -160,8 +192,7 @@ fn new_part(alloc: Global, word: &str) -> RedisResult<Part> {
 }
 
 fn end_part(session: &mut Machine, alloc: Global, seat: &str, why: &str) -> RedisResult<String> {
-    let (call, part) = cut(seat, ".");
-    let (call, part) = (number(call)?, number(part)?);
+    let (call, part) = two_numbers(seat, ".")?;
     match why {
         "late" => debug(alloc, &session.end_late(call, part)),
         "no-node" => debug(alloc, &session.end_without_node(call, part)),
@@ -169,8 +200,8 @@ fn end_part(session: &mut Machine, alloc: Global, seat: &str, why: &str) -> Redi
     }
 }
 
-fn overtaken(session: &mut Machine, alloc: Global, caller: u64, slot: u16) -> RedisResult<String> {
-    debug(alloc, &session.end_overtaken(caller, slot))
+fn overtaken(session: &mut Machine, alloc: Global, caller: u64, slot: &str) -> RedisResult<String> {
+    debug(alloc, &session.end_overtaken(caller, number(slot)?))
 }
 
 /// How far the parts are of which a reply is made, if it is.
@@ -194,8 +225,7 @@ fn push_phases(alloc: Global, text: &mut String, state: &Call) -> RedisResult<()
 
 /// How far a part is.
 fn phase(session: &Machine, alloc: Global, seat: &str) -> RedisResult<String> {
-    let (call, part) = cut(seat, ".");
-    let (call, part): (u64, usize) = (number(call)?, number(part)?);
+    let (call, part): (u64, usize) = two_numbers(seat, ".")?;
     let Some(state) = session.call(call) else {
         return plain(alloc, "None");
     };
