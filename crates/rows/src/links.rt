@@ -1,5 +1,5 @@
 //! One connection of a session, of which earlier rows tell what happened.
-use fixtures::{bad_row, bytes, cut, debug, number, okay, two};
+use fixtures::{bad_row, bytes, debug, debug_result, done, number, okay, two, two_numbers};
 use resp_core::RedisResult;
 use session_core::{Link, Standing, Ticket};
 use std::alloc::Global;
@@ -24,29 +24,33 @@ fn on_open(link: &mut Link, alloc: Global, name: &str, words: &str) -> RedisResu
         return Err(bad_row("not on a link that stands so"));
     }
     match name {
-        "ask" => ask(link, alloc, words)?,
-        "hear" => link.hear(&bytes(alloc, words)?)?,
-        "take" => return debug(alloc, &link.take(alloc)?),
-        _ => return Err(bad_row("no call of this name")),
+        "ask" => ask(link, alloc, words),
+        "hear" => done(alloc, link.hear(&bytes(alloc, words)?)),
+        "take" => debug_result(alloc, link.take(alloc)),
+        _ => Err(bad_row("no call of this name")),
     }
-    okay(alloc)
 }
 
-/// Asks a request, for `login`, for `map`, or for a part as `7.0`, before which `asking` may stand.
-fn ask(link: &mut Link, alloc: Global, words: &str) -> RedisResult<()> {
+/// Asks a request, for `login`, for `map`, or for a part as `7.0`, before which `asking:` may stand.
+fn ask(link: &mut Link, alloc: Global, words: &str) -> RedisResult<String> {
     let (word, rest) = two(words);
     let request = bytes(alloc, rest)?;
     if request.is_empty() || link.standing() != Standing::Open {
         return Err(bad_row("no request on an open link"));
     }
-    let (call, part) = cut(word, ".");
-    match (word, call.strip_prefix("asking:")) {
-        ("login", _) => link.ask(Ticket::Login, &request)?,
-        ("map", _) => link.ask(Ticket::Map(0), &request)?,
-        (_, Some(call)) => link.ask_asking(number(call)?, number(part)?, &request)?,
-        (_, None) => link.ask(Ticket::Part(number(call)?, number(part)?), &request)?,
+    let asking = word.strip_prefix("asking:");
+    match word {
+        "login" => done(alloc, link.ask(Ticket::Login, &request)),
+        "map" => done(alloc, link.ask(Ticket::Map(0), &request)),
+        _ => {
+            let (call, part) = two_numbers(asking.unwrap_or(word), ".")?;
+            if asking.is_some() {
+                done(alloc, link.ask_asking(call, part, &request))
+            } else {
+                done(alloc, link.ask(Ticket::Part(call, part), &request))
+            }
+        }
     }
-    Ok(())
 }
 
 /// Notes that bytes were written, if there are so many.
