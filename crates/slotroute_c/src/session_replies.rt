@@ -1,6 +1,10 @@
-ghost use Rattle.std.specs.Prelude.{◌≡◌, ◌≢◌, ◌<◌, ◌∷◌, [], IsTrue, length};
+ghost use Rattle.std.specs.Prelude.{◌≡◌, ◌≢◌, ◌<◌, ◌≤◌, ◌∷◌, [], IsTrue, drop, length};
 ghost use Rattle.redis_session.specs.Leads.{GivesReply, Leads};
+ghost use Rattle.redis_session.specs.Refusals.{refusal_reply};
+ghost use Rattle.redis_session.specs.declared.refusal.CallRefusal as refused;
+ghost use Rattle.slotroute_c.specs.Buffers.{IsWritten};
 ghost use Rattle.slotroute_c.specs.Outcomes.{code, is_one_of};
+ghost use Rattle.slotroute_c.specs.Refused.{of_refusal, reply_of_code};
 
 use crate::buffers::put;
 use crate::outcomes::Outcome;
@@ -58,6 +62,8 @@ pub extern "C" fn slotroute_session_next_reply(
 #[unsafe(no_mangle)]
 pub extern "C" fn slotroute_session_reply(session: &mut SessionHandle, bytes: &mut [u8]) -> usize
     ensures unchanged { session.new.value ≡ session.old.value }
+    // What follows the reply in the buffer stays.
+    ensures rest { drop result bytes.new ≡ drop result bytes.old }
     ensures too_small { length bytes.old < result → bytes.new ≡ bytes.old }
 {
     put_if_fits(session.get_mut().reply(), bytes)
@@ -66,6 +72,9 @@ pub extern "C" fn slotroute_session_reply(session: &mut SessionHandle, bytes: &m
 /// Writes items to the front of a buffer if they fit. Returns how many there are.
 fn put_if_fits(items: &[u8], buffer: &mut [u8]) -> usize
     ensures len { result ≡ length items.now }
+    ensures written { length items.now ≤ length buffer.old
+        → IsWritten items.now buffer.old buffer.new }
+    ensures rest { drop (length items.now) buffer.new ≡ drop (length items.now) buffer.old }
     ensures too_small { length buffer.old < length items.now → buffer.new ≡ buffer.old }
 {
     if items.len() <= buffer.len() {
@@ -76,9 +85,19 @@ fn put_if_fits(items: &[u8], buffer: &mut [u8]) -> usize
 
 /// The length of the reply that tells a client why `slotroute_session_begin` returned this code. The
 /// reply is written if it fits. It is empty for a code that no refusal has.
+///
+/// Code 5 gives `-ERR bytes follow the request`.
 #[unsafe(no_mangle)]
 pub extern "C" fn slotroute_refusal_reply(answer: u32, bytes: &mut [u8]) -> usize
-    ensures too_small { length bytes.old < result → bytes.new ≡ bytes.old }
+    ensures len { result ≡ length (reply_of_code answer) }
+    ensures written { length (reply_of_code answer) ≤ length bytes.old
+        → IsWritten (reply_of_code answer) bytes.old bytes.new }
+    ensures too_small { length bytes.old < length (reply_of_code answer) → bytes.new ≡ bytes.old }
+    // So 80 bytes have room for each.
+    ensures most { result ≤ 80 }
+    // It is the reply of each refusal that has this code.
+    ensures refusal { (refusal : refused.CallRefusal) → answer ≡ code (of_refusal refusal)
+        → reply_of_code answer ≡ refusal_reply refusal }
 {
     let reply = match answer {
         1 => CallRefusal::Memory.reply(),
