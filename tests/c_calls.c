@@ -657,7 +657,11 @@ static int is_login(void) {
         && slotroute_session_connected(&session, 0, &link) == SLOTROUTE_DONE && link == 0
         && is_written(&session, 0, LOGIN) && is_read(&session, 0, "+OK\r\n")
         && is_written(&session, 0, MAP_REQUEST)
+        && slotroute_session_next_time(&session, &time) == SLOTROUTE_DONE && time == 10
+        && slotroute_session_advance(&session, 10) == SLOTROUTE_DONE
         && slotroute_session_next_time(&session, &time) == SLOTROUTE_DONE && time == 60
+        && slotroute_session_advance(&session, 60) == SLOTROUTE_DONE
+        && slotroute_session_link_to_close(&session, &link) == SLOTROUTE_NOT_THERE
         && slotroute_session_advance(&session, 60) == SLOTROUTE_DONE
         && slotroute_session_link_to_close(&session, &link) == SLOTROUTE_DONE && link == 0;
     slotroute_session_close(session);

@@ -23,12 +23,15 @@ pub(crate) enum NodeLink {
 #[derive(Clone, Copy, Debug)]
 struct LinkRecord {
     node: Option<usize>,
-    /// If it owes a reply: when something was asked on it that owed nothing, or a byte came after that.
+    /// Whether a reply came, other than that to the login.
+    has_replied: bool,
+    /// If it owes a reply and is not fresh: when its silence began.
     silent_since: u64,
 }
 
 const NO_LINK: LinkRecord = LinkRecord {
     node: None,
+    has_replied: false,
     silent_since: 0,
 };
 
@@ -42,7 +45,7 @@ struct Node {
 }
 
 /// The nodes that a session knows, by numbers that stay, and its links. Each function takes constant time, or
-/// logarithmic time if it takes an address.
+/// logarithmic time if it takes an address. [`Nodes::begin_silences`] takes a step for each link that is fresh.
 #[derive(Drop)]
 pub(crate) struct Nodes {
     nodes: Vec<Node>,
@@ -59,7 +62,9 @@ pub(crate) struct Nodes {
     links: Vec<LinkRecord>,
     /// The links that are to be closed.
     closing: NumberQueue,
-    /// The links that owe a reply and are not to be closed, in the order in which their silence began.
+    /// The links that owe a reply, and on which something was asked or heard since the time was noted last.
+    fresh: NumberQueue,
+    /// The other links that owe a reply and are not to be closed, in the order in which their silence began.
     owing: NumberQueue,
     /// The links on which something was asked since they were named to the shell.
     to_write: NumberQueue,
@@ -81,6 +86,7 @@ impl Nodes {
             ready: NumberQueue::new(alloc),
             links: Vec::new(alloc),
             closing: NumberQueue::new(alloc),
+            fresh: NumberQueue::new(alloc),
             owing: NumberQueue::new(alloc),
             to_write: NumberQueue::new(alloc),
             last_turn: 0,
@@ -175,6 +181,29 @@ impl Nodes {
         }
     }
 
+    /// Notes that a reply came on a link, other than that to the login.
+    pub(crate) fn note_reply(&mut self, link: usize) {
+        if let Some(at) = self.links.get_mut(link) {
+            at.has_replied = true;
+        }
+    }
+
+    /// Whether a reply came on a link, other than that to the login.
+    pub(crate) fn has_replied(&self, link: usize) -> bool {
+        match self.links.get(link) {
+            Some(at) => at.has_replied,
+            None => false,
+        }
+    }
+
+    /// Whether a link is the one to a node.
+    pub(crate) fn is_link_to(&self, link: usize, node: usize) -> bool {
+        match self.link(node) {
+            NodeLink::Missing => false,
+            NodeLink::Opening(own) | NodeLink::Ready(own) => own == link,
+        }
+    }
+
     /// The address of the node of a link.
     pub(crate) fn address_of_link(&self, link: usize) -> Option<&NodeAddress> {
         self.address(self.node_of(link)?)
@@ -187,6 +216,7 @@ impl Nodes {
     /// If memory runs out. Nothing changes then.
     pub(crate) fn make_room(&mut self, link: usize) -> Result<(), AllocError> {
         self.closing.make_room(link)?;
+        self.fresh.make_room(link)?;
         self.owing.make_room(link)?;
         self.to_write.make_room(link)?;
         if self.links.len() <= link {
@@ -235,6 +265,7 @@ impl Nodes {
             return;
         }
         self.closing.push_back(link);
+        self.fresh.remove(link);
         self.owing.remove(link);
         self.to_write.remove(link);
         self.forget_link_of(self.node_of(link), link);
@@ -248,6 +279,7 @@ impl Nodes {
     /// Notes that a link ended. Returns its node.
     pub(crate) fn drop_link(&mut self, link: usize) -> Option<usize> {
         self.closing.remove(link);
+        self.fresh.remove(link);
         self.owing.remove(link);
         self.to_write.remove(link);
         let at = self.links.get_mut(link)?;
@@ -264,50 +296,53 @@ impl Nodes {
         Some(link)
     }
 
-    /// Notes that something was asked on a link. If the link owed nothing, its silence begins now.
-    pub(crate) fn note_asked(&mut self, link: usize, now: u64) {
+    /// Notes that something was asked on a link. If the link owed nothing, it is fresh.
+    pub(crate) fn note_asked(&mut self, link: usize) {
         self.to_write.push_back(link);
         if !self.owing.contains(link) {
-            self.begin_silence(link, now);
+            self.note_fresh(link);
         }
     }
 
-    /// Notes that bytes came on a link. If it owes a reply still, its silence begins now.
-    pub(crate) fn note_heard(&mut self, link: usize, owes: bool, now: u64) {
+    /// Notes that bytes came on a link. If it owes a reply still, it is fresh.
+    pub(crate) fn note_heard(&mut self, link: usize, owes: bool) {
+        self.fresh.remove(link);
         self.owing.remove(link);
         if owes {
-            self.begin_silence(link, now);
+            self.note_fresh(link);
         }
     }
 
-    /// Notes that the silence of a link begins now, unless the link is to be closed.
-    fn begin_silence(&mut self, link: usize, now: u64) {
-        if self.closing.contains(link) {
-            return;
+    /// Notes that the silence of a link begins when the time is noted next, unless the link is to be closed.
+    fn note_fresh(&mut self, link: usize) {
+        if !self.closing.contains(link) {
+            self.fresh.push_back(link);
         }
-        if let Some(at) = self.links.get_mut(link) {
-            at.silent_since = now;
-        }
-        self.owing.push_back(link);
     }
 
-    /// When the silence began that lasts longest, if a link owes a reply.
-    pub(crate) fn first_silence(&self) -> Option<u64> {
-        let link = self.owing.first()?;
-        Some(self.links.get(link)?.silent_since)
-    }
-
-    /// Notes that each link is to be closed whose silence lasts at least so long.
-    pub(crate) fn close_silent(&mut self, silence: u64, now: u64) {
+    /// Notes that the silence of each fresh link begins now.
+    pub(crate) fn begin_silences(&mut self, now: u64) {
         for _ in 0..self.links.len() {
-            let (Some(link), Some(since)) = (self.owing.first(), self.first_silence()) else {
+            let Some(link) = self.fresh.first() else {
                 return;
             };
-            if since.saturating_add(silence) > now {
-                return;
+            self.fresh.remove(link);
+            if let Some(at) = self.links.get_mut(link) {
+                at.silent_since = now;
             }
-            self.note_closing(link);
+            self.owing.push_back(link);
         }
+    }
+
+    /// Whether the silence of a link begins when the time is noted next.
+    pub(crate) fn has_fresh(&self) -> bool {
+        self.fresh.first().is_some()
+    }
+
+    /// The link whose silence lasts longest, and when that began.
+    pub(crate) fn longest_silence(&self) -> Option<(usize, u64)> {
+        let link = self.owing.first()?;
+        Some((link, self.links.get(link)?.silent_since))
     }
 
     /// Notes that a node has no link, if this was its link.
@@ -315,10 +350,7 @@ impl Nodes {
         let Some(number) = node else {
             return;
         };
-        let (NodeLink::Opening(own) | NodeLink::Ready(own)) = self.link(number) else {
-            return;
-        };
-        if own == link {
+        if self.is_link_to(link, number) {
             self.set_link(number, NodeLink::Missing);
         }
     }

@@ -28,7 +28,10 @@ pub struct Session {
     pub(crate) nodes: Nodes,
     pub(crate) schedule: Schedule,
     pub(crate) settings: Settings,
+    /// The time that was noted last.
     pub(crate) now: u64,
+    /// The time that was noted before.
+    pub(crate) time_before: u64,
     pub(crate) is_map_wanted: bool,
     pub(crate) is_map_asked: bool,
     /// When the map may be asked for again.
@@ -64,6 +67,7 @@ impl Session {
             schedule: Schedule::new(alloc),
             settings,
             now: 0,
+            time_before: 0,
             is_map_wanted: true,
             is_map_asked: false,
             map_time: 0,
@@ -145,11 +149,19 @@ impl Session {
                 return;
             };
             self.schedule.remove(seat);
-            if let Some(slot) = self.slot_of(seat) {
-                self.schedule.forget_ask(seat, slot);
-            }
-            self.schedule.pause(seat, end);
+            self.pause_unreached(seat, end);
         }
+    }
+
+    /// Lets a part pause whose node can't be reached. If an `ASK` sent it there, it is asked at the primary of its slot
+    /// then.
+    pub(crate) fn pause_unreached(&mut self, seat: Seat, end: u64)
+        ensures { self.new ≡ self.old }
+    {
+        if let Some(slot) = self.slot_of(seat) {
+            self.schedule.forget_ask(seat, slot);
+        }
+        self.schedule.pause(seat, end);
     }
 
     /// A link on which something was asked. It is named once after that, and has bytes to be written.
@@ -206,6 +218,9 @@ impl Session {
 
     /// Notes that the connection of a link ended, or was closed. Its number may be given to another link.
     ///
+    /// What was asked there and not begun is asked again. If no reply came on the link, except to its login, it pauses
+    /// first.
+    ///
     /// # Errors
     ///
     /// If memory runs out for requests that are asked now. A later step asks them.
@@ -219,9 +234,24 @@ impl Session {
     /// A link that is to be closed: its login was answered by an error, what came on it is no reply that is awaited, it
     /// was silent too long, or memory ran out for what came. The shell closes it and calls [`Session::ended`].
     ///
-    /// The node of a link whose login failed is named by [`Session::wanted_node`] again after the pause.
+    /// The node of a link whose login failed is named by [`Session::wanted_node`] again after the pause. So is one whose
+    /// link ended without a reply.
     pub fn link_to_close(&self) -> Option<usize> {
-        self.nodes.first_closing()
+        if let Some(link) = self.nodes.first_closing() {
+            return Some(link);
+        }
+        self.silent_link()
+    }
+
+    /// A link that was silent too long when the time was noted before the last time.
+    fn silent_link(&self) -> Option<usize> {
+        let silence = self.settings.silence?;
+        let (link, since) = self.nodes.longest_silence()?;
+        if since.saturating_add(silence) <= self.time_before {
+            Some(link)
+        } else {
+            None
+        }
     }
 
     /// Begins a call: a request of a caller, as the bytes of one command. If its reply is not there when it is
@@ -270,9 +300,8 @@ impl Session {
         true
     }
 
-    /// Notes what time it is. Pauses and calls whose time is over end, and links that were silent too long are to be
-    /// closed. Call it with the time of what happens before you tell of that: pauses and silences begin at the last
-    /// time that was noted.
+    /// Notes what time it is. Pauses and calls whose time is over end. Call it with the time of what happens before you
+    /// tell of that: pauses begin at the last time that was noted. [`Settings::silence`] says how silences are counted.
     ///
     /// # Errors
     ///
@@ -280,23 +309,15 @@ impl Session {
     pub fn advance(&mut self, alloc: Global, now: u64) -> Result<(), AllocError>
         ensures { Leads self.old self.new }
     {
+        self.time_before = self.now;
         self.now = self.now.max(now);
-        self.close_silent();
+        self.nodes.begin_silences(self.now);
         self.schedule.release_paused(self.now);
         self.end_late(alloc);
         self.step(alloc)
     }
 
-    /// Notes that the links are to be closed that were silent too long.
-    fn close_silent(&mut self)
-        ensures { self.new ≡ self.old }
-    {
-        if let Some(silence) = self.settings.silence {
-            self.nodes.close_silent(silence, self.now);
-        }
-    }
-
-    /// When [`Session::advance`] is to be called next.
+    /// When [`Session::advance`] is to be called next: at once if the time is not after the last one that was noted.
     pub fn next_time(&self) -> Option<u64> {
         let pause = self.schedule.first_pause_end();
         let deadline = match self.schedule.first_deadline() {
@@ -311,10 +332,14 @@ impl Session {
         earlier(self.silence_end(), earlier(map, earlier(pause, deadline)))
     }
 
-    /// When the first link was silent too long.
+    /// When the first link was silent too long, or at once if a silence is to begin.
     fn silence_end(&self) -> Option<u64> {
-        let since = self.nodes.first_silence()?;
-        Some(since.saturating_add(self.settings.silence?))
+        let silence = self.settings.silence?;
+        if self.nodes.has_fresh() {
+            return Some(self.now);
+        }
+        let (_, since) = self.nodes.longest_silence()?;
+        Some(since.saturating_add(silence))
     }
 
     /// How many replies to `CLUSTER SLOTS` were errors, or named no node.

@@ -16,6 +16,10 @@ pub struct Settings {
     pub most_bytes: usize,
     /// How long a link may owe a reply without a byte coming, in the unit of the shell's times. Then it is to be closed.
     /// `None`: as long as it likes.
+    ///
+    /// The silence begins at the first `advance` after a byte came on the link, or after something was asked on it while
+    /// it owed nothing. An `advance` finds that it lasted so long. From the next one on, `link_to_close` names the link,
+    /// unless a byte came meanwhile. So a shell that stood still can read what came in that time.
     pub silence: Option<u64>,
     /// How often nodes may refuse a part before it is given up: `MOVED`, `ASK`, `TRYAGAIN` and their like. While a
     /// replica takes over, nodes answer `CLUSTERDOWN` for seconds. So as many pauses have to last longer than that.

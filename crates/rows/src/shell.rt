@@ -54,6 +54,7 @@ pub fn call(session: &mut Session, alloc: Global, name: &str, words: &str) -> Re
 fn ask(session: &mut Session, alloc: Global, name: &str, words: &str) -> RedisResult<String> {
     match name {
         "wanted" => debug(alloc, &session.wanted_node()),
+        "to-write" => debug(alloc, &session.link_to_write()),
         "close" => debug(alloc, &session.link_to_close()),
         "time" => debug(alloc, &session.next_time()),
         "faults" => shown(alloc, &session.map_faults()),

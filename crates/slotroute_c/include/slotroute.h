@@ -321,8 +321,8 @@ uint32_t slotroute_session_give_up(slotroute_session *session, uint64_t call);
  * call asks what could not be asked now. */
 uint32_t slotroute_session_advance(slotroute_session *session, uint64_t now);
 
-/* Writes the time at which slotroute_session_advance is to be called next to time.
- * SLOTROUTE_NOT_THERE: nothing waits for a time. */
+/* Writes the time at which slotroute_session_advance is to be called next to time: at once if it is not after
+ * the last one. SLOTROUTE_NOT_THERE: nothing waits for a time. */
 uint32_t slotroute_session_next_time(slotroute_session *session, uint64_t *time);
 
 /* Whose reply comes next. */

@@ -258,7 +258,7 @@ impl Session {
             return Ok(());
         };
         if self.ask_at(seat, link, target)? {
-            self.nodes.note_asked(link, self.now);
+            self.nodes.note_asked(link);
             self.release_next(seat);
         }
         Ok(())
@@ -370,7 +370,7 @@ impl Session {
         };
         self.machine
             .ask_map(link, self.table.count(), CLUSTER_SLOTS)?;
-        self.nodes.note_asked(link, self.now);
+        self.nodes.note_asked(link);
         self.is_map_asked = true;
         self.is_map_wanted = false;
         Ok(())
@@ -402,7 +402,7 @@ impl Session {
             return Ok(());
         };
         self.machine.ask_login(link, &self.settings.login)?;
-        self.nodes.note_asked(link, self.now);
+        self.nodes.note_asked(link);
         Ok(())
     }
 }

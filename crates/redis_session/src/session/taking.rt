@@ -25,7 +25,7 @@ impl Session {
     {
         let taken = self.take_replies(alloc, link);
         let owes = self.machine.count_waits(link) > 0;
-        self.nodes.note_heard(link, owes, self.now);
+        self.nodes.note_heard(link, owes);
         taken
     }
 
@@ -51,7 +51,11 @@ impl Session {
         ensures { Leads self.old self.new }
     {
         match took {
-            Took::Nothing | Took::Asking(_) => Ok(()),
+            Took::Nothing => Ok(()),
+            Took::Asking(_) => {
+                self.nodes.note_reply(link);
+                Ok(())
+            }
             Took::Kept(seat) => self.note_kept(alloc, link, seat),
             Took::Back(seat, reply) => self.note_back(alloc, link, seat, &reply),
             Took::Login(reply) => {
@@ -91,6 +95,7 @@ impl Session {
     ) -> Result<(), AllocError>
         ensures { Leads self.old self.new }
     {
+        self.nodes.note_reply(link);
         self.is_map_asked = false;
         self.map_time = self.pause_end();
         let filled = match self.nodes.address_of_link(link) {
@@ -135,14 +140,12 @@ impl Session {
     fn note_kept(&mut self, alloc: Global, link: usize, seat: Seat) -> Result<(), AllocError>
         ensures { Leads self.old self.new }
     {
+        self.nodes.note_reply(link);
+        if self.keeps_change(seat) {
+            self.want_map();
+        }
         let told = match self.machine.part(seat.call, seat.part) {
             Some(part) => match part.phase() {
-                Phase::Answered(reply) => {
-                    if wants_map(reply) {
-                        self.is_map_wanted = true;
-                    }
-                    None
-                }
                 Phase::Refused(reply) => Some(redirect_in(alloc, reply, self.host_of(link))),
                 _ => None,
             },
@@ -155,6 +158,18 @@ impl Session {
         Ok(())
     }
 
+    /// Whether the reply that a part keeps says that the map changed.
+    fn keeps_change(&self, seat: Seat) -> bool {
+        match self.machine.part(seat.call, seat.part) {
+            Some(part) => match part.phase() {
+                Phase::Answered(reply) => wants_map(reply),
+                Phase::Refused(reply) => wants_map(reply),
+                _ => false,
+            },
+            None => false,
+        }
+    }
+
     /// Notes a refusal of a part, which waits again or is wanted by nobody.
     fn note_back(
         &mut self,
@@ -165,6 +180,10 @@ impl Session {
     ) -> Result<(), AllocError>
         ensures { Leads self.old self.new }
     {
+        self.nodes.note_reply(link);
+        if wants_map(reply) {
+            self.want_map();
+        }
         let told = redirect_in(alloc, reply, self.host_of(link));
         let learned = self.learn(seat, told);
         self.end_if_late(seat);
@@ -205,6 +224,7 @@ impl Session {
     {
         if refusal.starts_with(b"-MOVED ") || refusal.starts_with(b"-ASK ") {
             self.schedule.push_back(seat, Room::Unserved);
+            self.want_map();
             return;
         }
         let end = self.pause_end();
@@ -220,7 +240,6 @@ impl Session {
         ensures { self.new ≡ self.old }
     {
         let Some(redirect) = told? else {
-            self.want_map();
             return Ok(None);
         };
         let Some(slot) = self.slot_of(seat) else {
@@ -236,7 +255,6 @@ impl Session {
                 None => Ok(None),
             },
             Redirect::Moved(address) => {
-                self.want_map();
                 if number_of(&mut self.nodes, &mut self.schedule, &address)?.is_none() {
                     return Ok(None);
                 }
@@ -292,15 +310,21 @@ impl Session {
     pub(crate) fn break_link(&mut self, link: usize)
         ensures { self.new ≡ self.old }
     {
-        self.fail_opening(link);
+        self.note_unreached(link);
         self.nodes.note_closing(link);
     }
 
-    /// Notes that the node of a link could not be reached, if the login of the link was not answered.
-    fn fail_opening(&mut self, link: usize)
+    /// Notes that the node of a link could not be reached, if the link ends without a reply.
+    fn note_unreached(&mut self, link: usize)
         ensures { self.new ≡ self.old }
     {
-        if let Some(node) = self.nodes.opening_node(link) {
+        if self.nodes.has_replied(link) {
+            return;
+        }
+        let Some(node) = self.nodes.node_of(link) else {
+            return;
+        };
+        if self.nodes.is_link_to(link, node) {
             self.unreachable(node);
         }
     }
@@ -321,15 +345,16 @@ impl Session {
     }
 
     /// Ends a link: what was asked there and is not answered is lost, or is asked elsewhere if no byte of it was
-    /// written.
+    /// written. If the link ends without a reply, it is asked after a pause.
     pub(crate) fn end_link(&mut self, alloc: Global, link: usize)
         ensures { Ends link self.old self.new }
     {
         self.end_connection(link);
-        self.fail_opening(link);
+        self.note_unreached(link);
+        let has_replied = self.nodes.has_replied(link);
         let node = self.nodes.drop_link(link);
         self.want_map();
-        self.lose_all(alloc, link);
+        self.lose_all(alloc, link, has_replied);
         self.want_again(node);
     }
 
@@ -345,7 +370,7 @@ impl Session {
     }
 
     /// Gives up what waits on a link that ended, and frees its number.
-    fn lose_all(&mut self, alloc: Global, link: usize)
+    fn lose_all(&mut self, alloc: Global, link: usize, has_replied: bool)
         ensures { Leads self.old self.new }
     {
         for _ in 0..self.machine.count_waits(link) {
@@ -355,7 +380,7 @@ impl Session {
             let Some((ticket, _)) = self.machine.lose(link) else {
                 return;
             };
-            self.note_lost(alloc, ticket);
+            self.note_lost(alloc, ticket, has_replied);
         }
         self.machine.forget(link);
     }
@@ -372,8 +397,8 @@ impl Session {
         }
     }
 
-    /// Notes that the link ended on which this was asked.
-    fn note_lost(&mut self, alloc: Global, ticket: Ticket)
+    /// Notes that the link ended on which this was asked, and whether a reply came on the link.
+    fn note_lost(&mut self, alloc: Global, ticket: Ticket, has_replied: bool)
         ensures { Leads self.old self.new }
     {
         match ticket {
@@ -386,13 +411,25 @@ impl Session {
                 let seat = Seat { call, part };
                 self.end_if_late(seat);
                 if self.waits(seat) {
-                    self.schedule.push_back(seat, Room::Ready);
+                    self.ask_again(seat, has_replied);
                     self.release_next(seat);
                 } else {
                     self.note_done(alloc, seat);
                 }
             }
         }
+    }
+
+    /// Has a part asked in this step whose link ended, or after a pause if no reply came on the link.
+    fn ask_again(&mut self, seat: Seat, has_replied: bool)
+        ensures { self.new ≡ self.old }
+    {
+        if has_replied {
+            self.schedule.push_back(seat, Room::Ready);
+            return;
+        }
+        let end = self.pause_end();
+        self.pause_unreached(seat, end);
     }
 
     /// Ends the calls whose time is over.
