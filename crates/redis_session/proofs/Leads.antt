@@ -6,7 +6,7 @@ use Rattle.std.proofs.lemmas.List.Folds.{list_all-append}
 use Rattle.std.proofs.lemmas.Option.{same_Some}
 use Rattle.session_core.specs.Channel.{Channel}
 use Rattle.session_core.specs.LinkEvents as link
-use Rattle.session_core.specs.State.{State, CallState, Event, On, Finish, Happens, IsLink, Run}
+use Rattle.session_core.specs.State.{State, Event, On, Happens, IsLink, Run}
 use Rattle.session_core.specs.declared.link.Ticket.TheVariants as ticket
 use Rattle.session_machine.specs.Puts.{put_for}
 use Rattle.session_machine.specs.Took.{IsTook}
@@ -82,9 +82,6 @@ ends_on number old mid new first then = record {
 -- a number names one link
 pub same_link : (s : State) (number : ℕ) (c other : Channel) → IsLink s number c → IsLink s number other → c ≡ other
 same_link s number c other is its = same_Some c other (same_Some (Some c) (Some other) (sym is ∙ its))
-
-pub leads_replies : (caller call : ℕ) (old new : State) → GivesReply caller call old new → Leads old new
-leads_replies caller call old new gives = leads_on old gives.mid new gives.leads (leads_by gives.mid new (Finish call gives.state) gives.given refl)
 
 pub replies_on : (caller call : ℕ) (old mid new : State) → Leads old mid → GivesReply caller call mid new → GivesReply caller call old new
 replies_on caller call old mid new first gives = record {

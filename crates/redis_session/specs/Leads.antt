@@ -9,7 +9,7 @@ use Rattle.session_core.specs.Part.{PartState}
 use Rattle.session_core.specs.State.{State, CallState, Event, Open, On, Begin, GiveUp, Finish, Happens, IsLink, Run}
 
 -- The session may do this by itself. All else is reported by its shell: that a connection is there or ended, what
--- was written and read, that a caller asks something or waits no more.
+-- was written and read, that a caller asks something, takes a reply or waits no more.
 abbrev pub is_own : Event → Bool
 is_own (Open number most) = false
 is_own (On number (link.Write count)) = false
@@ -18,6 +18,7 @@ is_own (On number link.Miss) = false
 is_own (On number link.End) = false
 is_own (Begin call caller parts) = false
 is_own (GiveUp call) = false
+is_own (Finish call state) = false
 is_own other = true
 
 -- Steps of its own lead from one state to the other.

@@ -37,7 +37,8 @@ pub extern "C" fn slotroute_session_next_reply(
 ) -> u32
     ensures given { result ≡ code Outcome.Done
         → GivesReply reply.new.caller reply.new.call session.old.value session.new.value }
-    ensures leads { Leads session.old.value session.new.value }
+    // Without a reply, none goes out.
+    ensures leads { result ≢ code Outcome.Done → Leads session.old.value session.new.value }
     ensures unwritten { result ≢ code Outcome.Done → reply.new ≡ reply.old }
     ensures no_other { IsTrue (is_one_of result (Outcome.Done ∷ Outcome.NoMemory
         ∷ Outcome.NotThere ∷ [])) }

@@ -57,7 +57,9 @@ impl Session {
     /// If memory runs out. The same reply comes next then.
     pub fn next_reply(&mut self, alloc: Global) -> Result<Option<(u64, u64)>, AllocError>
         ensures given { IfOk result (λ next. IfSome next (λ it. GivesReply it.0 it.1 self.old self.new)) }
-        ensures steps { Leads self.old self.new }
+        // Without a reply, none goes out.
+        ensures none { IfOk result (λ next. IfNone next (Leads self.old self.new)) }
+        ensures err { OnErr result (Leads self.old self.new) }
     {
         self.forget_reply(alloc);
         for _ in 0..self.schedule.most_callers() {
