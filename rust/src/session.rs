@@ -596,7 +596,9 @@ mod tests {
         let (caller, late, text) = next(&mut session).unwrap();
         assert_eq!((caller, late), (7, call));
         assert!(text.ends_with("; the command did not take effect\r\n"), "{text}");
-        session.advance(210).unwrap();
+        session.advance(300).unwrap();
+        assert_eq!((session.link_to_close(), session.next_time()), (None, Some(300)));
+        session.advance(300).unwrap();
         assert_eq!(session.link_to_close(), Some(link));
     }
 
