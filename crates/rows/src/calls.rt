@@ -1,6 +1,6 @@
 //! What a session asks of nodes for a request, and what a caller is told if it fails.
-use fixtures::{bad_row, bytes, cmd, cut, debug, okay, pieces, plain, two};
-use redis_routing::{Names, ReadOnlyNames, Registry};
+use crate::routing::Known;
+use fixtures::{bad_row, bytes, cmd, cut, debug, debug_result, done, pieces, plain, two};
 use redis_session::{
     AddedNames, CallPlan, CallRefusal, ErrorCause, PartFate, command_kind, effect_of, error_reply,
     no_tries_reply, split_reply,
@@ -12,8 +12,7 @@ use std::alloc::Global;
 /// The names that earlier rows added.
 #[derive(Drop)]
 pub struct CallRows {
-    read_only: ReadOnlyNames,
-    registry: Registry,
+    known: Known,
     added: AddedNames,
 }
 
@@ -21,8 +20,7 @@ impl CallRows {
     /// No name is added.
     pub fn new(alloc: Global) -> CallRows {
         CallRows {
-            read_only: ReadOnlyNames::new(alloc),
-            registry: Registry::new(alloc),
+            known: Known::new(alloc),
             added: AddedNames::new(alloc),
         }
     }
@@ -30,35 +28,29 @@ impl CallRows {
     /// What a call of this name returns.
     pub fn call(&mut self, alloc: Global, name: &str, words: &str) -> RedisResult<String> {
         match name {
-            "add_plain" => self.added.add(alloc, words.as_bytes(), true)?,
-            "add_script" => self.added.add(alloc, words.as_bytes(), false)?,
-            "kind" => return self.kind(alloc, words),
-            "plan" => return self.plan(alloc, &request(alloc, words)?),
-            "plan_bytes" => return self.plan(alloc, &bytes(alloc, words)?),
-            "reply" => return self.reply(alloc, words),
-            "refused" => return self.refused(alloc, &request(alloc, words)?),
-            "told" => return told(alloc, words),
-            "no_tries" => return no_tries(alloc, words),
-            _ => return Err(bad_row("no call of this name")),
+            "add_plain" => done(alloc, self.added.add(alloc, words.as_bytes(), true)),
+            "add_script" => done(alloc, self.added.add(alloc, words.as_bytes(), false)),
+            "kind" => self.kind(alloc, words),
+            "plan" => self.plan(alloc, request(alloc, words)),
+            "plan_bytes" => self.plan(alloc, bytes(alloc, words)),
+            "reply" => self.reply(alloc, words),
+            "refused" => self.refused(alloc, words),
+            "told" => told(alloc, words),
+            "no_tries" => no_tries(alloc, words),
+            _ => Err(bad_row("no call of this name")),
         }
-        okay(alloc)
     }
 
     fn kind(&self, alloc: Global, words: &str) -> RedisResult<String> {
         let command = cmd(alloc, words)?;
-        let kind = command_kind(alloc, &command, &self.registry, &self.added)?;
-        debug(alloc, &kind)
-    }
-
-    fn names(&self) -> Names<'_> {
-        Names {
-            read_only: &self.read_only,
-            registry: &self.registry,
-        }
+        debug_result(
+            alloc,
+            command_kind(alloc, &command, &self.known.registry, &self.added),
+        )
     }
 
     fn plan_of(&self, alloc: Global, request: &[u8]) -> Result<CallPlan, CallRefusal> {
-        CallPlan::new(alloc, request, self.names(), &self.added)
+        CallPlan::new(alloc, request, self.known.names(), &self.added)
     }
 
     /// The reply to a command, of the answers to its parts.
@@ -69,22 +61,23 @@ impl CallRows {
         for word in pieces(alloc, rest, " | ")? {
             answers.push(bytes(alloc, word)?)?;
         }
-        match split_reply(alloc, &request, self.names(), &answers) {
+        match split_reply(alloc, &request, self.known.names(), &answers) {
             Ok(reply) => text(alloc, &reply),
             Err(fault) => debug(alloc, &fault),
         }
     }
 
-    fn plan(&self, alloc: Global, request: &[u8]) -> RedisResult<String> {
-        match self.plan_of(alloc, request) {
+    /// What is asked for a request, or why it is refused.
+    fn plan(&self, alloc: Global, request: RedisResult<Vec<u8>>) -> RedisResult<String> {
+        match self.plan_of(alloc, &request?) {
             Ok(plan) => debug(alloc, &plan),
             Err(refusal) => debug(alloc, &refusal),
         }
     }
 
     /// The reply to a request that is refused.
-    fn refused(&self, alloc: Global, request: &[u8]) -> RedisResult<String> {
-        match self.plan_of(alloc, request) {
+    fn refused(&self, alloc: Global, words: &str) -> RedisResult<String> {
+        match self.plan_of(alloc, &request(alloc, words)?) {
             Ok(_plan) => Err(bad_row("not refused")),
             Err(refusal) => text(alloc, refusal.reply()),
         }

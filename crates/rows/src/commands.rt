@@ -1,7 +1,7 @@
 //! Commands, values and errors.
 use fixtures::{
     bad_row, cmd, debug, debug_result, equality_result, number, plain, shown, shown_result, two,
-    value,
+    two_numbers, value,
 };
 use resp::write_command;
 use resp_core::{Cmd, ErrorKind, RedisError, RedisResult};
@@ -14,7 +14,7 @@ pub fn call(alloc: Global, name: &str, words: &str) -> RedisResult<String> {
         "with_capacity" => debug_result(alloc, Cmd::with_capacity(alloc, number(words)?)),
         "with_room" => with_room(alloc, words),
         "arg" => arg(alloc, words),
-        "request" => debug(alloc, &write_command(alloc, &cmd(alloc, words)?)?),
+        "request" => debug_result(alloc, write_command(alloc, &cmd(alloc, words)?)),
         "copied" => equality_result(alloc, cmd(alloc, words)),
         "copied_value" => equality_result(alloc, value(alloc, words)),
         "error" => shown_result(alloc, error(alloc, words)),
@@ -25,8 +25,8 @@ pub fn call(alloc: Global, name: &str, words: &str) -> RedisResult<String> {
 
 /// A new command with room for these numbers of items and bytes.
 fn with_room(alloc: Global, words: &str) -> RedisResult<String> {
-    let (items, bytes) = two(words);
-    debug_result(alloc, Cmd::with_room(alloc, number(items)?, number(bytes)?))
+    let (items, bytes) = two_numbers(words, " ")?;
+    debug_result(alloc, Cmd::with_room(alloc, items, bytes))
 }
 
 /// A command of two words. If the second one is refused, the command must not change.

@@ -5,7 +5,7 @@ mod shards;
 use crate::picked::are_few_in_vain;
 use cluster_map::{Route, SlotMap, parse_slots, slot_cmd};
 use fixtures::{
-    Turns, bad_row, cmd_text, debug, debug_result, equality_result, lines, map, number, okay,
+    Turns, bad_row, cmd_text, debug, debug_result, done, equality_result, lines, map, number, put,
     ranges, slot_addr, two, value,
 };
 use resp_core::RedisResult;
@@ -14,12 +14,11 @@ use std::alloc::Global;
 /// What a call of this name returns. The map is that of earlier rows.
 pub fn call(slots: &mut SlotMap, alloc: Global, name: &str, words: &str) -> RedisResult<String> {
     match name {
-        "map" => *slots = map(alloc, words)?,
-        "fill" => slots.fill_slots(ranges(alloc, words)?)?,
-        "reply" => *slots = map_of_reply(alloc, words)?,
-        _ => return ask(slots, alloc, name, words),
+        "map" => put(alloc, slots, map(alloc, words)),
+        "fill" => done(alloc, slots.fill_slots(ranges(alloc, words)?)),
+        "reply" => put(alloc, slots, map_of_reply(alloc, words)),
+        _ => ask(slots, alloc, name, words),
     }
-    okay(alloc)
 }
 
 /// What a call of this name returns that sets nothing.
@@ -54,10 +53,8 @@ fn make(alloc: Global, name: &str, words: &str) -> RedisResult<String> {
 /// The ranges of a reply, after the host of the node that answered.
 fn parsed(alloc: Global, words: &str) -> RedisResult<String> {
     let (answering, reply) = two(words);
-    debug(
-        alloc,
-        &parse_slots(alloc, &value(alloc, reply)?, answering)?,
-    )
+    let reply = value(alloc, reply)?;
+    debug_result(alloc, parse_slots(alloc, &reply, answering))
 }
 
 fn map_of_reply(alloc: Global, words: &str) -> RedisResult<SlotMap> {

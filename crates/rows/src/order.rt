@@ -1,5 +1,5 @@
 //! What keeps the order of a caller: its parts, and whose reply is next.
-use fixtures::{bad_row, debug, number, okay};
+use fixtures::{bad_row, debug, debug_result, number, okay};
 use resp_core::RedisResult;
 use session_core::{CallerOrder, PartOrder, Replies};
 use std::alloc::Global;
@@ -18,17 +18,21 @@ impl Order {
         }
     }
 
+    fn renew(&mut self, alloc: Global) -> RedisResult<String> {
+        self.replies = Replies::new(alloc);
+        okay(alloc)
+    }
+
     /// What a call of this name returns.
     pub fn call(&mut self, alloc: Global, name: &str, words: &str) -> RedisResult<String> {
         match name {
-            "new" => *self = Order::new(alloc),
-            "join" => return joined(alloc, number(words)?),
-            "barred" => return barred(alloc, number(words)?),
-            "owe" => return debug(alloc, &self.replies.begin(number(words)?)?),
-            "next" => return debug(alloc, &self.replies.next_reply()),
-            _ => return Err(bad_row("no call of this name")),
+            "new" => self.renew(alloc),
+            "join" => joined(alloc, number(words)?),
+            "barred" => barred(alloc, number(words)?),
+            "owe" => debug_result(alloc, self.replies.begin(number(words)?)),
+            "next" => debug(alloc, &self.replies.next_reply()),
+            _ => Err(bad_row("no call of this name")),
         }
-        okay(alloc)
     }
 }
 

@@ -1,7 +1,9 @@
 //! Where the command of a route goes, attempt by attempt.
 use crate::driving::redirect;
 use cluster_map::{Route, SlotMap};
-use fixtures::{bad_row, cut, lines, map, number, okay, plain, push, push_shown, slot_addr, two};
+use fixtures::{
+    bad_row, cut, lines, map, number, plain, push, push_shown, put, slot_addr, two, two_numbers,
+};
 use redis_cluster::driver::Retry;
 use resp_core::RedisResult;
 use std::alloc::{AllocError, Global};
@@ -9,11 +11,10 @@ use std::alloc::{AllocError, Global};
 /// What a call of this name returns. The map is that of earlier rows.
 pub fn call(slots: &mut SlotMap, alloc: Global, name: &str, words: &str) -> RedisResult<String> {
     match name {
-        "map" => *slots = map(alloc, words)?,
-        "retry" => return retry(alloc, slots, words),
-        _ => return Err(bad_row("no call of this name")),
+        "map" => put(alloc, slots, map(alloc, words)),
+        "retry" => retry(alloc, slots, words),
+        _ => Err(bad_row("no call of this name")),
     }
-    okay(alloc)
 }
 
 /// The route, the pick and the number of retries of a row.
@@ -27,11 +28,11 @@ struct Begin {
 fn begin_of(words: &str) -> RedisResult<Begin> {
     let (slot, rest) = two(words);
     let (addr, rest) = two(rest);
-    let (pick, retries) = two(rest);
+    let (pick, retries) = two_numbers(rest, " ")?;
     Ok(Begin {
         route: Route::new(number(slot)?, slot_addr(addr)?),
-        pick: number(pick)?,
-        retries: number(retries)?,
+        pick,
+        retries,
     })
 }
 

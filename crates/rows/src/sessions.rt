@@ -169,7 +169,7 @@ fn begin(session: &mut Machine, alloc: Global, caller: u64, words: &str) -> Redi
     if !can_begin(&parts) {
         return Err(bad_row("no parts of one call"));
     }
-    debug(alloc, &session.begin(alloc, caller, parts)?)
+    debug_result(alloc, session.begin(alloc, caller, parts))
 }
 
 /// The part of a word, as `15495:2:yes:GET`: its order, its retries, whether nodes refuse it before they run it,

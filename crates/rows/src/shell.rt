@@ -1,7 +1,8 @@
 //! A session, as its shell calls it.
 use cluster_map::NodeAddress;
 use fixtures::{
-    bad_row, bytes, cut, debug, debug_or_none, debug_result, number, okay, plain, shown, two,
+    bad_row, bytes, cut, debug, debug_or_none, debug_result, done, number, okay, plain, put, shown,
+    two,
 };
 use redis_routing::{ReadOnlyNames, Registry};
 use redis_session::{AddedNames, Session, Settings};
@@ -40,19 +41,7 @@ fn session_of(alloc: Global, words: &str) -> RedisResult<Session> {
 /// What a call of this name returns. The session is that of earlier rows.
 pub fn call(session: &mut Session, alloc: Global, name: &str, words: &str) -> RedisResult<String> {
     match name {
-        "shell" => *session = session_of(alloc, words)?,
-        "advance" => session.advance(alloc, number(words)?)?,
-        "unreachable" => session.unreachable(number(words)?),
-        "ended" => session.ended(alloc, number(words)?)?,
-        "read" => read(session, alloc, words)?,
-        _ => return ask(session, alloc, name, words),
-    }
-    okay(alloc)
-}
-
-/// What a call of this name returns that answers something.
-fn ask(session: &mut Session, alloc: Global, name: &str, words: &str) -> RedisResult<String> {
-    match name {
+        "shell" => put(alloc, session, session_of(alloc, words)),
         "wanted" => debug(alloc, &session.wanted_node()),
         "to-write" => debug(alloc, &session.link_to_write()),
         "close" => debug(alloc, &session.link_to_close()),
@@ -60,20 +49,39 @@ fn ask(session: &mut Session, alloc: Global, name: &str, words: &str) -> RedisRe
         "faults" => shown(alloc, &session.map_faults()),
         "next" => next(session, alloc),
         "node" => node(session, alloc, words),
-        "address" => debug_or_none(alloc, session.address(number(words)?)),
-        "connected" => debug_result(alloc, session.connected(alloc, number(words)?)),
-        "unwritten" => shown(alloc, &session.unwritten(number(words)?).escape_ascii()),
-        "wrote" => wrote(session, alloc, words),
-        "begin" => begin(session, alloc, words),
-        "give-up" => shown(alloc, &session.give_up(alloc, number(words)?)),
+        _ => on_number(session, alloc, name, words),
+    }
+}
+
+/// What a call of this name returns that begins with a number: of a node, a link, a caller or a call,
+/// or a time.
+fn on_number(session: &mut Session, alloc: Global, name: &str, words: &str) -> RedisResult<String> {
+    let (first, rest) = two(words);
+    let number = number(first)?;
+    match name {
+        "advance" => done(alloc, session.advance(alloc, number as u64)),
+        "unreachable" => unreachable(session, alloc, number),
+        "ended" => done(alloc, session.ended(alloc, number)),
+        "read" => read(session, alloc, number, rest),
+        "address" => debug_or_none(alloc, session.address(number)),
+        "connected" => debug_result(alloc, session.connected(alloc, number)),
+        "unwritten" => shown(alloc, &session.unwritten(number).escape_ascii()),
+        "wrote" => wrote(session, alloc, number, rest),
+        "begin" => begin(session, alloc, number as u64, rest),
+        "give-up" => shown(alloc, &session.give_up(alloc, number as u64)),
         _ => Err(bad_row("no call of this name")),
     }
 }
 
+fn unreachable(session: &mut Session, alloc: Global, node: usize) -> RedisResult<String> {
+    session.unreachable(node);
+    okay(alloc)
+}
+
 /// Passes bytes that came on a link.
-fn read(session: &mut Session, alloc: Global, words: &str) -> RedisResult<()> {
-    let (link, heard) = two(words);
-    Ok(session.read(alloc, number(link)?, &bytes(alloc, heard)?)?)
+fn read(session: &mut Session, alloc: Global, link: usize, heard: &str) -> RedisResult<String> {
+    let heard = bytes(alloc, heard)?;
+    done(alloc, session.read(alloc, link, &heard))
 }
 
 /// The number of a node.
@@ -83,16 +91,14 @@ fn node(session: &mut Session, alloc: Global, address: &str) -> RedisResult<Stri
 }
 
 /// Whether so many bytes were to be written on a link.
-fn wrote(session: &mut Session, alloc: Global, words: &str) -> RedisResult<String> {
-    let (link, count) = two(words);
-    shown(alloc, &session.wrote(number(link)?, number(count)?))
+fn wrote(session: &mut Session, alloc: Global, link: usize, count: &str) -> RedisResult<String> {
+    shown(alloc, &session.wrote(link, number(count)?))
 }
 
 /// The number of a call by its caller, its deadline and its request, or why it is refused.
-fn begin(session: &mut Session, alloc: Global, words: &str) -> RedisResult<String> {
-    let (caller, rest) = two(words);
-    let (deadline, request) = two(rest);
-    let (caller, deadline) = (number(caller)?, number(deadline)?);
+fn begin(session: &mut Session, alloc: Global, caller: u64, words: &str) -> RedisResult<String> {
+    let (deadline, request) = two(words);
+    let deadline = number(deadline)?;
     match session.begin(alloc, caller, &bytes(alloc, request)?, deadline) {
         Ok(call) => shown(alloc, &call),
         Err(refusal) => debug(alloc, &refusal),

@@ -1,5 +1,5 @@
 //! Pipelines, and which of them a cluster refuses.
-use fixtures::{bad_row, cmds, debug, is_same, number, okay, plain, shown};
+use fixtures::{bad_row, cmds, debug, done, is_same, number, okay, plain, put, shown};
 use redis_cluster::pipeline::{ClusterPipeline, cluster_pipe};
 use resp_core::{Cmd, RedisResult};
 use std::alloc::Global;
@@ -12,14 +12,25 @@ pub fn call(
     text: &str,
 ) -> RedisResult<String> {
     match name {
-        "pipe" => pipe(alloc, pipeline, text)?,
-        "new" => *pipeline = ClusterPipeline::new(alloc),
-        "room" => *pipeline = ClusterPipeline::with_capacity(alloc, number(text)?)?,
-        "copy" => *pipeline = pipeline.clone()?,
-        "check" => pipeline.check(alloc)?,
-        "ignored" => return shown(alloc, &pipeline.ignored(number(text)?)),
-        _ => return changed(alloc, pipeline, name, text),
+        "pipe" => done(alloc, pipe(alloc, pipeline, text)),
+        "new" => renew(alloc, pipeline),
+        "room" => put(
+            alloc,
+            pipeline,
+            ClusterPipeline::with_capacity(alloc, number(text)?),
+        ),
+        "copy" => {
+            *pipeline = pipeline.clone()?;
+            okay(alloc)
+        }
+        "check" => done(alloc, pipeline.check(alloc)),
+        "ignored" => shown(alloc, &pipeline.ignored(number(text)?)),
+        _ => changed(alloc, pipeline, name, text),
     }
+}
+
+fn renew(alloc: Global, pipeline: &mut ClusterPipeline) -> RedisResult<String> {
+    *pipeline = ClusterPipeline::new(alloc);
     okay(alloc)
 }
 
@@ -49,10 +60,16 @@ fn change(
     text: &str,
 ) -> RedisResult<()> {
     match name {
-        "cmd" => pipeline.cmd(alloc, text.as_bytes()).map(|_| ())?,
-        "arg" => pipeline.arg(text.as_bytes()).map(|_| ())?,
+        "cmd" => {
+            pipeline.cmd(alloc, text.as_bytes())?;
+        }
+        "arg" => {
+            pipeline.arg(text.as_bytes())?;
+        }
         "write_arg" => pipeline.write_arg(text.as_bytes())?,
-        "ignore" => pipeline.ignore().map(|_| ())?,
+        "ignore" => {
+            pipeline.ignore()?;
+        }
         _ => return Err(bad_row("no call of this name")),
     }
     Ok(())
