@@ -31,7 +31,7 @@ cause_text Lost = codes "-ERR a connection ended; "
 
 abbrev pub effect_text : Effect → List ℕ
 effect_text effects.Nothing = codes "the command did not take effect"
-effect_text effects.InPart = codes "a part of the command did not take effect, and others may have"
+effect_text effects.InPart = codes "a part did not take effect, and others may have"
 effect_text effects.Unknown = codes "the command may have taken effect"
 
 abbrev pub error_reply : ErrorCause → Effect → List ℕ

@@ -102,38 +102,38 @@ fn effect_text(effect: Effect) -> &'static [u8]
 {
     match effect {
         Effect::Nothing => b"the command did not take effect",
-        Effect::InPart => b"a part of the command did not take effect, and others may have",
+        Effect::InPart => b"a part did not take effect, and others may have",
         Effect::Unknown => b"the command may have taken effect",
     }
 }
 
 const OVERTAKEN: [&[u8]; 3] = [
     b"-TRYAGAIN a later command took effect first; the command did not take effect\r\n",
-    b"-TRYAGAIN a later command took effect first; a part of the command did not take effect, and others may have\r\n",
+    b"-TRYAGAIN a later command took effect first; a part did not take effect, and others may have\r\n",
     b"-TRYAGAIN a later command took effect first; the command may have taken effect\r\n",
 ];
 
 const NO_TRIES: [&[u8]; 3] = [
     b"-TRYAGAIN the nodes refused too often; the command did not take effect\r\n",
-    b"-TRYAGAIN the nodes refused too often; a part of the command did not take effect, and others may have\r\n",
+    b"-TRYAGAIN the nodes refused too often; a part did not take effect, and others may have\r\n",
     b"-TRYAGAIN the nodes refused too often; the command may have taken effect\r\n",
 ];
 
 const NO_NODE: [&[u8]; 3] = [
     b"-CLUSTERDOWN no node serves the slot; the command did not take effect\r\n",
-    b"-CLUSTERDOWN no node serves the slot; a part of the command did not take effect, and others may have\r\n",
+    b"-CLUSTERDOWN no node serves the slot; a part did not take effect, and others may have\r\n",
     b"-CLUSTERDOWN no node serves the slot; the command may have taken effect\r\n",
 ];
 
 const LATE: [&[u8]; 3] = [
     b"-ERR the time is over; the command did not take effect\r\n",
-    b"-ERR the time is over; a part of the command did not take effect, and others may have\r\n",
+    b"-ERR the time is over; a part did not take effect, and others may have\r\n",
     b"-ERR the time is over; the command may have taken effect\r\n",
 ];
 
 const LOST: [&[u8]; 3] = [
     b"-ERR a connection ended; the command did not take effect\r\n",
-    b"-ERR a connection ended; a part of the command did not take effect, and others may have\r\n",
+    b"-ERR a connection ended; a part did not take effect, and others may have\r\n",
     b"-ERR a connection ended; the command may have taken effect\r\n",
 ];
 
