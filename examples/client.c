@@ -119,7 +119,7 @@ static int begin(char *line) {
 }
 
 int main(int count, char **nodes) {
-    slotroute_session_settings settings = {1000000, 10000, 10000000, 0, 10, 16};
+    slotroute_session_settings settings = {1 << 29, 100000, 1 << 30, 10000, 100, 100};
     size_t awaited = 0, node, link, size = 0;
     char *line = NULL;
     if (slotroute_session_open(&settings, NULL, 0, &session) != SLOTROUTE_DONE) return 1;

@@ -3,6 +3,7 @@
 from __future__ import annotations
 
 import errno
+import os
 import socket
 import time
 from functools import partial
@@ -53,7 +54,7 @@ def login_of(username: str | None, password: str | None) -> bytes:
 
 def closed_error() -> Exception:
     """The error of a command to a client that is closed."""
-    return ConnectionError("the cluster was closed")
+    return ConnectionError("the cluster is closed; the command did not take effect")
 
 
 class Waiter:
@@ -74,7 +75,7 @@ class Waiter:
 
     def fail(self) -> None:
         """Ends the waiting with an error, since the client is closed."""
-        self.error = closed_error()
+        self.error = ConnectionError("the cluster was closed; the command may have taken effect")
         self.calls.clear()
         self.finish()
 
@@ -120,6 +121,7 @@ class Client:
         library: Library | None = None,
     ) -> None:
         self.timeout, self._connect_timeout = timeout, connect_timeout
+        self._process = os.getpid()
         self._nodes = list(nodes)
         if not self._nodes:
             raise ValueError("a client needs a node to begin with")
@@ -174,7 +176,10 @@ class Client:
     # Calls.
 
     def _deadline(self, timeout: float | None) -> int:
-        """The end of a time that begins now, or of the client's own time."""
+        """The end of a time that begins now, or of the client's own time. Each command begins with
+        this, so the child of a fork is refused here: it would read its parent's replies."""
+        if os.getpid() != self._process:
+            raise RuntimeError("this client is of another process: make one after the fork")
         timeout = self.timeout if timeout is None else timeout
         if timeout is None or timeout > 1e9:
             return FOREVER

@@ -50,9 +50,9 @@ class Cluster(Client):
             cluster.execute("SET", "foo", 1)
 
     Any thread may use it. The threads share one connection to each node. Commands of one thread
-    take effect on a slot in their order. In the child of a fork make a new one. Don't use it in the
-    handler of a signal. If such a handler raises while a command waits, the command is given up,
-    and the client may be closed.
+    take effect on a slot in their order. In the child of a fork a command raises `RuntimeError`:
+    make a new client there. Don't use it in the handler of a signal. If such a handler raises while
+    a command waits, the command is given up, and the client may be closed.
 
     It connects at once. `nodes` are the hosts and ports to begin with. Times are in seconds. A
     command has up to `timeout`; None is for ever. A connection has up to `connect_timeout`. A node

@@ -1,9 +1,11 @@
 """The errors that a client raises. If redis-py is installed they are its own, and else others of
-the same names. An error of a node is a `ResponseError`, or the kind that its first word names.
+the same names, of which `ConnectionError` and `TimeoutError` are also Python's. An error of a node is
+a `ResponseError`, or the kind that its first word names.
 """
 
 from __future__ import annotations
 
+import builtins
 from importlib import import_module
 from typing import Any
 
@@ -21,8 +23,8 @@ def _named(name: str, *bases: type[Exception]) -> type[Exception]:
 
 
 RedisError = _named("RedisError", Exception)
-ConnectionError = _named("ConnectionError", RedisError)
-TimeoutError = _named("TimeoutError", RedisError)
+ConnectionError = _named("ConnectionError", RedisError, builtins.ConnectionError)
+TimeoutError = _named("TimeoutError", RedisError, builtins.TimeoutError)
 InvalidResponse = _named("InvalidResponse", RedisError)
 ResponseError = _named("ResponseError", RedisError)
 AuthenticationError = _named("AuthenticationError", ConnectionError)

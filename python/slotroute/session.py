@@ -113,11 +113,11 @@ class Session:
     `slotroute.Cluster` is one.
 
     `login` is the request that each link begins with, as `request("AUTH", "password")`. A reply has
-    at most `most_reply_bytes`. At most `most_calls` calls are kept, and `most_bytes` of their
-    requests. A link that owes a reply and is silent for as long as `silence` is to be closed; with
-    0 it may be silent forever. A part that a node cannot run yet pauses for as long as `pause`. It
-    is given up after `retries` refusals. Times are numbers of one clock in any unit. The usual
-    numbers are those for milliseconds.
+    at most `most_reply_bytes`; a link with a longer one is to be closed. At most `most_calls` calls
+    are kept, and `most_bytes` of their requests. A link that owes a reply and is silent for as long
+    as `silence` is to be closed; with 0 a session never leaves a node that hangs. A part that a
+    node cannot run yet pauses for as long as `pause`. It is given up after `retries` refusals.
+    Times are numbers of one clock in any unit. The usual numbers are those for milliseconds.
 
     What a call refuses is raised as `Refused`, whose `name` is that of the code. A number that C
     cannot have is an `OverflowError`. After both the session is as it was, unless the call says
@@ -129,12 +129,12 @@ class Session:
         self,
         *,
         login: bytes = b"",
-        most_reply_bytes: int = 1_000_000,
-        most_calls: int = 10_000,
-        most_bytes: int = 10_000_000,
-        silence: int = 0,
-        pause: int = 10,
-        retries: int = 16,
+        most_reply_bytes: int = 1 << 29,
+        most_calls: int = 100_000,
+        most_bytes: int = 1 << 30,
+        silence: int = 10_000,
+        pause: int = 100,
+        retries: int = 100,
         library: Library | None = None,
     ) -> None:
         """Opens a session without nodes, links and calls. `NO_MEMORY`: there is no session. A

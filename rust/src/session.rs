@@ -122,11 +122,13 @@ pub struct Settings {
     pub most_calls: usize,
     /// How many bytes the requests of the kept calls may have together.
     pub most_bytes: usize,
-    /// How long a link may owe a reply without a byte coming. `None`: forever.
+    /// How long a link may owe a reply without a byte coming. `None`: forever, so a session never leaves
+    /// a node that hangs.
     pub silence: Option<NonZeroU64>,
     /// How long a part pauses that a node cannot run yet, as after `TRYAGAIN`.
     pub pause: u64,
-    /// How often nodes may refuse a part before it is given up.
+    /// How often nodes may refuse a part before it is given up. The pauses of all retries together are to
+    /// be longer than a failover takes.
     pub retries: u32,
 }
 
@@ -134,12 +136,12 @@ impl Default for Settings {
     fn default() -> Self {
         Settings {
             login: Vec::new(),
-            most_reply_bytes: 1_000_000,
-            most_calls: 10_000,
-            most_bytes: 10_000_000,
-            silence: None,
-            pause: 10,
-            retries: 16,
+            most_reply_bytes: 1 << 29,
+            most_calls: 100_000,
+            most_bytes: 1 << 30,
+            silence: NonZeroU64::new(10_000),
+            pause: 100,
+            retries: 100,
         }
     }
 }
@@ -514,7 +516,7 @@ mod tests {
 
     #[test]
     fn a_reply_in_pieces_goes_to_its_caller() {
-        let (mut session, link) = connected(&Settings::default());
+        let (mut session, link) = connected(&Settings { silence: None, ..Settings::default() });
         let call = begin(&mut session, 7, GET_FOO);
         assert_eq!((session.next_time(), session.link_to_close()), (Some(100), None));
         assert_eq!(session.link_to_write(), Some(link));
@@ -582,7 +584,8 @@ mod tests {
     #[test]
     fn deadlines_silence_and_logins() {
         let login = b"*2\r\n$4\r\nAUTH\r\n$1\r\np\r\n".to_vec();
-        let settings = Settings { silence: NonZeroU64::new(200), login, ..Settings::default() };
+        let silence = NonZeroU64::new(200);
+        let settings = Settings { silence, login, pause: 10, ..Settings::default() };
         let mut session = Session::open(&settings).unwrap();
         let node = session.add_node("n1", 7000).unwrap();
         assert_eq!((session.add_node("n1", 7000), session.wanted_node()), (Ok(node), Some(node)));

@@ -223,10 +223,11 @@ typedef struct slotroute_session {
     void *at;
 } slotroute_session;
 
-/* How a session asks. Usual numbers for times in milliseconds are 1000000, 10000, 10000000, 0, 10 and
- * 16. */
+/* How a session asks. Usual numbers for times in milliseconds are 1 << 29, 100000, 1 << 30, 10000,
+ * 100 and 100. With silence 0 a session never leaves a node that hangs. The pauses of all retries
+ * together are to be longer than a failover takes. */
 typedef struct slotroute_session_settings {
-    size_t most_reply_bytes; /* how many bytes a reply may have */
+    size_t most_reply_bytes; /* how many bytes a reply may have; a link with more is to be closed */
     size_t most_calls;       /* how many calls may be kept, of all callers together */
     size_t most_bytes;       /* how many bytes the requests of the kept calls may have together */
     uint64_t silence;        /* how long a link may owe a reply without a byte coming; 0: forever */
