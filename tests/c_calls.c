@@ -374,6 +374,23 @@ static int exact(void) {
     return 0;
 }
 
+/* A SCAN over three nodes, the second of which has 17 as a cursor between. */
+static int cursors(void) {
+    static const uint64_t replied[] = {0, 17, 0, 0};
+    uint64_t cursor = 0, asked[4] = {9, 9, 9, 9};
+    slotroute_position at;
+    for (size_t i = 0; i < 4; i++) {
+        if (slotroute_cursor_position(cursor, 3, &at) != SLOTROUTE_DONE) return 1;
+        asked[i] = at.node << 8 | at.cursor;
+        if (slotroute_next_cursor(3, at.node, replied[i], &cursor) != SLOTROUTE_DONE) return 2;
+    }
+    if (asked[0] != 0 || asked[1] != 0x100 || asked[2] != 0x111 || asked[3] != 0x200 || cursor != 0) return 3;
+    if (slotroute_cursor_position(3ull << 48, 3, &at) != SLOTROUTE_NOT_THERE || at.node != 2) return 4;
+    cursor = 5;
+    if (slotroute_next_cursor(3, 0, 1ull << 48, &cursor) != SLOTROUTE_NOT_THERE || cursor != 5) return 5;
+    return slotroute_next_cursor(3, 3, 0, &cursor) != SLOTROUTE_NOT_THERE;
+}
+
 /* Each argument that may be empty is a null pointer. */
 static int null(void) {
     slotroute_told told = {0};
@@ -1059,6 +1076,7 @@ int main(int count, char **words) {
     if (count == 2 && strcmp(words[1], "exact") == 0) return exact();
     if (count == 2 && strcmp(words[1], "threads") == 0) return threads();
     if (count == 2 && strcmp(words[1], "null") == 0) return null();
+    if (count == 2 && strcmp(words[1], "cursors") == 0) return cursors();
     if (count == 2 && strcmp(words[1], "stack") == 0) return stack();
     if (count == 2 && strcmp(words[1], "sessions") == 0) return sessions();
     if (count == 2 && strcmp(words[1], "refusals") == 0) return refusals();

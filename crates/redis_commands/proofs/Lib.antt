@@ -7,3 +7,4 @@ pub mod Whole
 pub mod Nodes
 pub mod Told
 pub mod Routed
+pub mod Cursors

@@ -8,3 +8,4 @@ pub mod FaultText
 pub mod Part
 pub mod Way
 pub mod SplitFault
+pub mod Cursors

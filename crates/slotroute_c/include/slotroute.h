@@ -181,6 +181,21 @@ uint32_t slotroute_combine_answers(uint32_t policy, size_t count,
                                    const uint8_t *replies, size_t replies_len,
                                    uint8_t *out, size_t out_len, slotroute_told *told);
 
+/* Where a SCAN over several nodes stands: the next call goes to this node, with this cursor. */
+typedef struct slotroute_position {
+    uint64_t node; /* its index, counted from 0 */
+    uint64_t cursor;
+} slotroute_position;
+
+/* Writes where a client's cursor of SCAN stands, over so many nodes. SCAN 0 begins at node 0.
+ * SLOTROUTE_NOT_THERE: the cursor names a node that is not there. */
+uint32_t slotroute_cursor_position(uint64_t cursor, uint64_t nodes, slotroute_position *position);
+
+/* Writes the cursor for the client, after one of so many nodes replied cursor. A node's 0 is followed
+ * by the next node. The last one's is followed by 0: the scan ended. All are below 2^63.
+ * SLOTROUTE_NOT_THERE: there is no such node, or more than 32768 nodes, or cursor is 2^48 or more. */
+uint32_t slotroute_next_cursor(uint64_t nodes, uint64_t node, uint64_t cursor, uint64_t *next);
+
 #define SLOTROUTE_SLOTS 16384u
 #define SLOTROUTE_NO_NODE 65535u
 

@@ -4,6 +4,7 @@
 
 mod block;
 mod buffers;
+mod cursors;
 mod faults;
 mod keys;
 mod lengths;
