@@ -8,6 +8,7 @@ use redis_routing::{ReadOnlyNames, Registry};
 use redis_session::{AddedNames, Session, Settings};
 use resp_core::RedisResult;
 use std::alloc::Global;
+use uses::session::everyday;
 
 /// A session whose links begin with this login. It takes the commands of these names, too.
 pub fn new_session(alloc: Global, login: Vec<u8>, added: AddedNames) -> Session {
@@ -48,6 +49,7 @@ pub fn call(session: &mut Session, alloc: Global, name: &str, words: &str) -> Re
         "time" => debug(alloc, &session.next_time()),
         "faults" => shown(alloc, &session.map_faults()),
         "next" => next(session, alloc),
+        "everyday" => shown(alloc, &everyday(alloc)?.as_bytes().escape_ascii()),
         "node" => node(session, alloc, words),
         _ => on_number(session, alloc, name, words),
     }

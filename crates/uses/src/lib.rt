@@ -18,6 +18,7 @@ pub mod replies;
 pub mod retrying;
 pub mod routing;
 pub mod sending;
+pub mod session;
 pub mod shared_strategy;
 pub mod side_by_side;
 pub mod splitting_bytes;
