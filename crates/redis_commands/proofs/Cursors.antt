@@ -23,7 +23,7 @@ goes_on : (nodes node cursor : ℕ) (cursors : List ℕ) → IsBelow cursor → 
 goes_on nodes node cursor [] below all more = grind (arith)
 goes_on nodes node cursor (zero ∷ cursors) below all more =
     let rest : follow nodes (cursor_at (node + 1) 0) cursors ≡ cursor_at (node + 1 + count_zeros cursors) (last_or 0 cursors) =
-        goes_on nodes (node + 1) 0 cursors (omega arith) (All-tail IsBelow 0 cursors all) (omega (arith, more)) in
+    goes_on nodes (node + 1) 0 cursors (omega arith) (All-tail IsBelow 0 cursors all) (omega (arith, more)) in
     rw (own_node node cursor below) (rw (next_node nodes node (omega (arith, more))) (rw rest (omega arith)))
 goes_on nodes node cursor (suc n ∷ cursors) below all more =
     rw (own_node node cursor below) (goes_on nodes node (suc n) cursors (All-head IsBelow (suc n) cursors all) (All-tail IsBelow (suc n) cursors all) more)
@@ -42,5 +42,5 @@ stands nodes cursors all more = let r = goes_on nodes 0 0 cursors (omega arith) 
 pub ends : (nodes : ℕ) (cursors : List ℕ) → All (λ c. c < 2 ^ 48) cursors → count_zeros cursors + 1 ≡ nodes → follow nodes 0 (cursors ++ 0 ∷ []) ≡ 0
 ends nodes cursors all last =
     rw (follow-append nodes 0 cursors (0 ∷ [])) (rw (stands nodes cursors all (omega (arith, last)))
-        (rw (own_node (count_zeros cursors) (last_or 0 cursors) (last_below 0 cursors (omega arith) all))
-            (last_node nodes (count_zeros cursors) last)))
+    (rw (own_node (count_zeros cursors) (last_or 0 cursors) (last_below 0 cursors (omega arith) all))
+    (last_node nodes (count_zeros cursors) last)))

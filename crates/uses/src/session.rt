@@ -7,7 +7,9 @@ use resp_core::RedisResult;
 use std::alloc::Global;
 
 const ME: u64 = 1;
-const MAP: &[u8] = b"*2\r\n*3\r\n:0\r\n:8191\r\n*2\r\n$8\r\n10.0.0.1\r\n:6379\r\n*3\r\n:8192\r\n:16383\r\n*2\r\n$8\r\n10.0.0.2\r\n:6379\r\n";
+
+const MAP: &[u8] =
+    b"*2\r\n*3\r\n:0\r\n:8191\r\n*2\r\n$8\r\n10.0.0.1\r\n:6379\r\n*3\r\n:8192\r\n:16383\r\n*2\r\n$8\r\n10.0.0.2\r\n:6379\r\n";
 
 /// A session, and a line for each thing that happened.
 #[derive(Drop)]
@@ -37,9 +39,13 @@ pub fn everyday(alloc: Global) -> RedisResult<String> {
     let second = shell.connect()?;
     shell.write(second)?;
     // a redirect: the slot of `bar` moves between the two commands
-    shell.session.read(alloc, first, b"+OK\r\n-MOVED 5061 10.0.0.2:6379\r\n")?;
+    shell
+        .session
+        .read(alloc, first, b"+OK\r\n-MOVED 5061 10.0.0.2:6379\r\n")?;
     shell.write(second)?;
-    shell.session.read(alloc, second, b"*1\r\n$-1\r\n*1\r\n$1\r\n1\r\n")?;
+    shell
+        .session
+        .read(alloc, second, b"*1\r\n$-1\r\n*1\r\n$1\r\n1\r\n")?;
     shell.show_replies()?;
 
     // a call that is given up: its late reply goes to nobody
