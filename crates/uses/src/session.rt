@@ -30,7 +30,7 @@ pub fn everyday(alloc: Global) -> RedisResult<String> {
     shell.session.add_node(&seed)?;
     let first = shell.connect()?;
     shell.write(first)?;
-    shell.session.read(alloc, first, MAP)?;
+    shell.read(first, MAP)?;
 
     // a pipeline: the second command has a part at each node
     shell.begin(b"*3\r\n$3\r\nSET\r\n$3\r\nbar\r\n$1\r\n1\r\n");
@@ -39,20 +39,16 @@ pub fn everyday(alloc: Global) -> RedisResult<String> {
     let second = shell.connect()?;
     shell.write(second)?;
     // a redirect: the slot of `bar` moves between the two commands
-    shell
-        .session
-        .read(alloc, first, b"+OK\r\n-MOVED 5061 10.0.0.2:6379\r\n")?;
+    shell.read(first, b"+OK\r\n-MOVED 5061 10.0.0.2:6379\r\n")?;
     shell.write(second)?;
-    shell
-        .session
-        .read(alloc, second, b"*1\r\n$-1\r\n*1\r\n$1\r\n1\r\n")?;
+    shell.read(second, b"*1\r\n$-1\r\n*1\r\n$1\r\n1\r\n")?;
     shell.show_replies()?;
 
     // a call that is given up: its late reply goes to nobody
     let call = shell.begin(b"*2\r\n$3\r\nGET\r\n$3\r\nfoo\r\n");
     shell.write(second)?;
     shell.session.give_up(alloc, call);
-    shell.session.read(alloc, second, b"$3\r\nold\r\n")?;
+    shell.read(second, b"$3\r\nold\r\n")?;
     shell.show_replies()?;
 
     // a node that dies: nobody knows whether the command ran
@@ -81,6 +77,10 @@ impl Shell {
         let count = bytes.len();
         self.session.wrote(link, count);
         Ok(self.lines.push_str(&line)?)
+    }
+
+    fn read(&mut self, link: usize, came: &[u8]) -> RedisResult<()> {
+        Ok(self.session.read(self.alloc, link, came)?)
     }
 
     /// Begins a call. It is number 0 if it is refused.
