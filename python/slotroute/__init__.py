@@ -284,15 +284,18 @@ class Library:
 def request(*words: bytes | str | int | float) -> bytes:
     """The bytes of a request. A number is written as Python writes it. A word of another type is a
     `TypeError`, also `None`, `True` and `False`."""
-    encoded = [it if isinstance(it, bytes) else _encoded(it) for it in words]
-    return b"*%d\r\n" % len(encoded) + b"".join(b"$%d\r\n%s\r\n" % (len(it), it) for it in encoded)
+    fields: list[Any] = [len(words)]
+    for it in words:
+        data = it if type(it) is bytes else _encoded(it)
+        fields += len(data), data
+    return (b"*%d\r\n" + b"$%d\r\n%b\r\n" * len(words)) % tuple(fields)
 
 
 def _encoded(word: Any) -> bytes:
     """A word of a request as bytes."""
     if isinstance(word, str):
         return word.encode()
-    if isinstance(word, (bytearray, memoryview)):
+    if isinstance(word, (bytes, bytearray, memoryview)):
         return bytes(word)
     if isinstance(word, (int, float)) and not isinstance(word, bool):
         return str(word).encode()

@@ -64,19 +64,21 @@ class Waiter:
         self.replies = [b""] * count
         self.finish = finish
         self.error: Exception | None = None
-        # The calls whose replies did not come, with the places of these.
-        self.calls: dict[int, int] = {}
+        self.calls: list[int] = []
+        # How many replies did not come.
+        self.missing = 0
 
-    def take(self, call: int, reply: bytes) -> None:
-        """Takes the reply to a call."""
-        self.replies[self.calls.pop(call)] = reply
-        if not self.calls:
+    def take(self, place: int, reply: bytes) -> None:
+        """Takes the reply to the request of this index."""
+        self.replies[place] = reply
+        self.missing -= 1
+        if not self.missing:
             self.finish()
 
     def fail(self) -> None:
         """Ends the waiting with an error, since the client is closed."""
         self.error = ConnectionError("the cluster was closed; the command may have taken effect")
-        self.calls.clear()
+        self.missing = 0
         self.finish()
 
 
@@ -138,7 +140,8 @@ class Client:
         )
         self._links: dict[int, Link] = {}
         self._attempts: set[Attempt] = set()
-        self._waiters: dict[int, Waiter] = {}
+        # Who waits for the reply to a call, and the index of its request there.
+        self._waiters: dict[int, tuple[Waiter, int]] = {}
         self._first_call: int | None = None
         self._open_session()
         self._open()
@@ -154,6 +157,7 @@ class Client:
     def _open_session(self) -> None:
         """Opens a session with the nodes to begin with."""
         self._session = self._new_session()
+        self._calls = self._session.calls
         self._is_closed = False
         for host, port in self._nodes:
             self._session.add_node(host, port)
@@ -187,17 +191,16 @@ class Client:
 
     def _begin(self, waiter: Waiter, requests: Sequence[bytes], caller: int, deadline: int) -> None:
         """Begins the calls of requests. A refusal is a reply that is there at once."""
-        session = self._session
-        self._advance(_now())
-        for place, it in enumerate(requests):
-            try:
-                call = session.begin(caller, it, deadline)
-            except Refused as refused:
-                waiter.replies[place] = session.refusal_reply(refused.answer)
+        self._calls.advance(_now())
+        waiters, calls = self._waiters, waiter.calls
+        for place, call in enumerate(self._calls.begin_each(caller, requests, deadline)):
+            if isinstance(call, Refused):
+                waiter.replies[place] = self._session.refusal_reply(call.answer)
                 continue
-            waiter.calls[call] = place
-            self._waiters[call] = waiter
-        if not waiter.calls:
+            calls.append(call)
+            waiters[call] = waiter, place
+        waiter.missing = len(calls)
+        if not calls:
             waiter.finish()
 
     def _begin_first(self, waiter: Waiter, deadline: int) -> None:
@@ -219,42 +222,51 @@ class Client:
 
     def _leave(self, waiter: Waiter) -> None:
         """Gives up the calls whose replies did not come. What comes later goes to nobody."""
-        for call in waiter.calls:
-            self._waiters.pop(call, None)
-            if not self._is_closed:
+        for call in waiter.calls if waiter.missing else ():
+            if self._waiters.pop(call, None) and not self._is_closed:
                 self._session.give_up(call)
-        waiter.calls.clear()
+        waiter.missing = 0
 
     def _give_replies(self) -> None:
         """Gives the replies that are there to those who wait."""
-        while (reply := _with_memory(self._session.next_reply)) is not None:
-            waiter = self._waiters.pop(reply.call, None)
-            if waiter is not None:
-                waiter.take(reply.call, reply.data)
+        next_reply, waiters = self._calls.next_reply, self._waiters
+        try:
+            while (reply := next_reply()) is not None:
+                _, call, data = reply
+                if (found := waiters.pop(call, None)) is not None:
+                    waiter, place = found
+                    waiter.take(place, data)
+        except Refused as refused:
+            if refused.answer != NO_MEMORY:  # else the next turn goes on
+                raise
 
     def _fail_all(self) -> None:
         """Ends all waiting, since the client is closed."""
-        for waiter in set(self._waiters.values()):
+        for waiter in {waiter for waiter, _ in self._waiters.values()}:
             waiter.fail()
         self._waiters.clear()
 
     # The loop of a shell.
 
     def _turn(self) -> None:
-        """Does what the session wants until it wants nothing more."""
-        self._advance(_now())
+        """Tells the session the time, and does what it wants."""
+        self._calls.advance(_now())
+        self._do_wanted()
+
+    def _do_wanted(self) -> None:
+        """Does what the session wants until it wants nothing more. Writes come first, since nodes
+        work on what was written meanwhile."""
         is_more = True
         while is_more:
+            is_more = self._write_links()
             self._give_replies()
-            is_more = any((self._close_links(), self._connect(), self._write_links()))
-
-    def _advance(self, now: int) -> None:
-        _with_memory(partial(self._session.advance, now))
+            is_more |= self._close_links()
+            is_more |= self._connect()
 
     def _close_links(self) -> bool:
         """Closes the links that the session wants closed. Returns whether there were some."""
         count = 0
-        while (number := self._session.link_to_close()) is not None:
+        while (number := self._calls.link_to_close()) is not None:
             count += 1
             self._end(self._links[number])
         return count > 0
@@ -263,30 +275,36 @@ class Client:
         """Begins the connections that the session wants, and ends those that take too long. Returns
         whether there were some."""
         count = 0
-        while (node := self._session.wanted_node()) is not None:
+        while (node := self._calls.wanted_node()) is not None:
             count += 1
             host, port = self._session.address(node)
             self._resolve(host, port, partial(self._attempt, node))
-        now = time.monotonic()
-        for attempt in [it for it in self._attempts if it.until <= now]:
+        for attempt in self._late_attempts():
             count += 1
             self._try_next(attempt)
         return count > 0
 
+    def _late_attempts(self) -> list[Attempt]:
+        """The attempts that take too long."""
+        if not self._attempts:
+            return []
+        now = time.monotonic()
+        return [it for it in self._attempts if it.until <= now]
+
     def _write_links(self) -> bool:
         """Writes on the links on which something was asked. Returns whether one of them ended."""
         count = len(self._links)
-        while (number := self._session.link_to_write()) is not None:
+        while (number := self._calls.link_to_write()) is not None:
             self._write(self._links[number])
         return len(self._links) < count
 
     def _wait_time(self) -> float:
         """In how many seconds the next turn is due, if nothing happens before."""
         now = time.monotonic()
-        times = [now + self.LONGEST_WAIT, *(it.until for it in self._attempts)]
-        if (named := self._session.next_time()) is not None:
-            times.append(named / 1000)
-        return max(0.0, min(times) - now)
+        until = min((it.until for it in self._attempts), default=now + self.LONGEST_WAIT)
+        if (named := self._calls.next_time()) is not None:
+            until = min(until, named / 1000)
+        return max(0.0, until - now)
 
     # Connections.
 
@@ -342,7 +360,7 @@ class Client:
         """Closes the connection of a link."""
         self._close_socket(link.sock)
         del self._links[link.number]
-        _with_memory(partial(self._session.ended, link.number))
+        self._calls.ended(link.number)
 
     def _close_all(self) -> None:
         """Closes all connections and the session."""
@@ -368,31 +386,31 @@ class Client:
         if not data:
             self._end(link)
             return
-        self._note_first(link, data)
-        _with_memory(partial(self._session.read, link.number, data))
+        if link.first is not None:
+            self._note_first(link, link.first + data[:MOST_FIRST])
+        self._calls.read(link.number, data)
 
-    def _note_first(self, link: Link, data: bytes) -> None:
+    def _note_first(self, link: Link, first: bytes) -> None:
         """Looks whether the first reply on a link is an error. A client that has no map yet is told
         so, since it would wait for one."""
-        if link.first is None:
-            return
-        link.first += data[:MOST_FIRST]
-        is_other = not link.first.startswith(b"-") or link.first.startswith(NOT_YET)
-        if is_other or len(link.first) > MOST_FIRST:
+        is_other = not first.startswith(b"-") or first.startswith(NOT_YET)
+        if is_other or len(first) > MOST_FIRST:
             link.first = None
             return
-        line, end, _ = link.first.partition(b"\r\n")
+        link.first = first
+        line, end, _ = first.partition(b"\r\n")
         if not end:
             return
         link.first = None
-        if self._first_call is not None and (waiter := self._waiters.pop(self._first_call, None)):
+        if self._first_call is not None and (found := self._waiters.pop(self._first_call, None)):
             self._session.give_up(self._first_call)
-            waiter.take(self._first_call, line + end)
+            waiter, place = found
+            waiter.take(place, line + end)
 
     def _write(self, link: Link) -> None:
         """Writes what a link takes now. The rest is written once its socket takes more."""
-        is_more = True
-        while is_more and (data := self._session.unwritten(link.number)):
+        is_more, calls, number = True, self._calls, link.number
+        while is_more and (data := calls.unwritten(number)):
             try:
                 count = link.sock.send(data)
             except (BlockingIOError, InterruptedError):
@@ -401,9 +419,10 @@ class Client:
             except OSError:
                 self._end(link)
                 return
-            self._session.wrote(link.number, count)
+            calls.wrote(number, count)
             is_more = count < len(data) or count == MOST_UNWRITTEN
-        self._watch_writes(link, False)
+        if link.writes:
+            self._watch_writes(link, False)
 
     def _watch_writes(self, link: Link, writes: bool) -> None:
         """Watches whether a link takes more to be written, or no more."""
@@ -467,16 +486,6 @@ def _is_connected(sock: socket.socket) -> bool:
         return code == 0 and sock.getpeername() != sock.getsockname()
     except OSError:
         return False
-
-
-def _with_memory(call: Callable[[], Any]) -> Any:
-    """What a call gives, or None if memory ran out. The next turn goes on."""
-    try:
-        return call()
-    except Refused as refused:
-        if refused.answer != NO_MEMORY:
-            raise
-        return None
 
 
 def _now() -> int:

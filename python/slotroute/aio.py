@@ -99,7 +99,7 @@ class Cluster(Client):
         try:
             await waiter.future
         finally:
-            if waiter.calls:
+            if waiter.missing:
                 self._leave(waiter)
                 self._turn_soon()
         if waiter.error is not None:

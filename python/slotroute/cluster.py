@@ -2,7 +2,7 @@
 
 from __future__ import annotations
 
-import selectors
+import select
 import socket
 import threading
 from typing import Any, Callable, Iterable
@@ -66,11 +66,13 @@ class Cluster(Client):
     def _open(self) -> None:
         # It knows whether this thread has it. A lock that does not would be lost to a signal.
         self._lock: Any = threading.RLock()
-        self._selector = selectors.DefaultSelector()
+        self._poll = select.epoll()
+        # What to call if a socket may be read or written, by its file descriptor.
+        self._watched: dict[int, tuple[Callback | None, Callback | None]] = {}
         self._wakes, self._waker = socket.socketpair()
         self._wakes.setblocking(False)
         self._waker.setblocking(False)
-        self._selector.register(self._wakes, selectors.EVENT_READ, (self._drain, None))
+        self._watch(self._wakes, self._drain, None)
         # The threads that wait, and the one of them that drives: it waits for the sockets of all.
         self._threads: set[ThreadWaiter] = set()
         self._driver: ThreadWaiter | None = None
@@ -132,7 +134,7 @@ class Cluster(Client):
                     self._begin_first(waiter, deadline)
                 else:
                     self._begin(waiter, requests, threading.get_ident(), deadline)
-                self._turn()
+                self._do_wanted()
                 if self._driver is not None:
                     self._wake()
                 while not waiter.is_over:
@@ -163,7 +165,7 @@ class Cluster(Client):
             finally:
                 self._driver = None
                 if self._is_closed:
-                    self._close_selector()
+                    self._close_poll()
             return
         self._unlocked(waiter, waiter.sleep)
 
@@ -175,19 +177,16 @@ class Cluster(Client):
     def _take_events(self, waiter: ThreadWaiter, wait: float) -> int:
         """Waits for the sockets, and reads and writes those that are ready. Returns how many
         were."""
-        select = self._selector.select
-        events = self._unlocked(waiter, lambda: select(wait)) if wait else select(0)
-        for key, mask in events:
-            read, write = key.data
-            if write and mask & selectors.EVENT_WRITE and self._is_watched(key):
+        poll = self._poll.poll
+        events = self._unlocked(waiter, poll, wait) if wait else poll(0)
+        ready = [(fd, mask, self._watched.get(fd)) for fd, mask in events]
+        for fd, mask, watched in ready:
+            read, write = watched or (None, None)
+            if write and mask & ~select.EPOLLIN and self._watched.get(fd) is watched:
                 write()
-            if read and mask & selectors.EVENT_READ and self._is_watched(key):
+            if read and mask & ~select.EPOLLOUT and self._watched.get(fd) is watched:
                 read()
         return len(events)
-
-    def _is_watched(self, key: selectors.SelectorKey) -> bool:
-        """Whether a socket is watched as it was when its event came."""
-        return self._selector.get_map().get(key.fd) is key
 
     def _take_waiting_events(self, waiter: ThreadWaiter) -> None:
         """Takes what came while no thread waited, such as the end of a link."""
@@ -195,14 +194,14 @@ class Cluster(Client):
             if not self._take_events(waiter, 0):
                 return
 
-    def _unlocked(self, waiter: ThreadWaiter, wait: Callable[[], Any]) -> Any:
+    def _unlocked(self, waiter: ThreadWaiter, wait: Callable[..., Any], *words: Any) -> Any:
         """What a call gives that waits without the lock. It has the lock again also if the handler
         of a signal raises, anywhere here: what that raises is raised then."""
         given, raised = None, None
         waiter.is_idle = True
         try:
             self._lock.release()
-            given = wait()
+            given = wait(*words)
         except BaseException as error:
             raised = error
         while True:
@@ -238,30 +237,33 @@ class Cluster(Client):
                 waiter.fail()
 
     def _shut(self) -> None:
-        """Closes all. A thread that drives closes the selector itself, since it may wait on it."""
+        """Closes all. A thread that drives closes the poll itself, since it may wait on it."""
         self._close_all()
         if self._driver is None:
-            self._close_selector()
+            self._close_poll()
         else:
             self._wake()
 
-    def _close_selector(self) -> None:
-        self._selector.close()
+    def _close_poll(self) -> None:
+        self._poll.close()
         self._wakes.close()
         self._waker.close()
 
     # Sockets.
 
     def _watch(self, sock: socket.socket, read: Callback | None, write: Callback | None) -> None:
-        events = (selectors.EVENT_READ if read else 0) | (selectors.EVENT_WRITE if write else 0)
-        is_known = sock in self._selector.get_map()
+        fd, events = sock.fileno(), (read and select.EPOLLIN or 0) | (write and select.EPOLLOUT or 0)
+        is_known = fd in self._watched
         if events == 0:
             if is_known:
-                self._selector.unregister(sock)
-        elif is_known:
-            self._selector.modify(sock, events, (read, write))
+                del self._watched[fd]
+                self._poll.unregister(fd)
+            return
+        self._watched[fd] = read, write
+        if is_known:
+            self._poll.modify(fd, events)
         else:
-            self._selector.register(sock, events, (read, write))
+            self._poll.register(fd, events)
 
     def _resolve(self, host: str, port: int, then: Callable[[Iterable[Any]], None]) -> None:
         then(addresses_of(host, port))
