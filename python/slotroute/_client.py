@@ -60,13 +60,16 @@ def closed_error() -> Exception:
 class Waiter:
     """Waits for the replies to some requests of one caller."""
 
-    def __init__(self, count: int, finish: Callback) -> None:
+    def __init__(self, count: int) -> None:
         self.replies = [b""] * count
-        self.finish = finish
         self.error: Exception | None = None
         self.calls: list[int] = []
         # How many replies did not come.
         self.missing = 0
+
+    def finish(self) -> None:
+        """Ends the waiting."""
+        raise NotImplementedError
 
     def take(self, place: int, reply: bytes) -> None:
         """Takes the reply to the request of this index."""
@@ -191,7 +194,6 @@ class Client:
 
     def _begin(self, waiter: Waiter, requests: Sequence[bytes], caller: int, deadline: int) -> None:
         """Begins the calls of requests. A refusal is a reply that is there at once."""
-        self._calls.advance(_now())
         waiters, calls = self._waiters, waiter.calls
         for place, call in enumerate(self._calls.begin_each(caller, requests, deadline)):
             if isinstance(call, Refused):
@@ -202,6 +204,7 @@ class Client:
         waiter.missing = len(calls)
         if not calls:
             waiter.finish()
+        self._calls.advance(_now())  # what is late already is not written
 
     def _begin_first(self, waiter: Waiter, deadline: int) -> None:
         """Begins the call whose reply shows that the session has the map of the slots."""
@@ -279,24 +282,25 @@ class Client:
             count += 1
             host, port = self._session.address(node)
             self._resolve(host, port, partial(self._attempt, node))
-        for attempt in self._late_attempts():
-            count += 1
-            self._try_next(attempt)
+        if self._attempts:
+            now = time.monotonic()
+            for attempt in [it for it in self._attempts if it.until <= now]:
+                count += 1
+                self._try_next(attempt)
         return count > 0
-
-    def _late_attempts(self) -> list[Attempt]:
-        """The attempts that take too long."""
-        if not self._attempts:
-            return []
-        now = time.monotonic()
-        return [it for it in self._attempts if it.until <= now]
 
     def _write_links(self) -> bool:
         """Writes on the links on which something was asked. Returns whether one of them ended."""
-        count = len(self._links)
-        while (number := self._calls.link_to_write()) is not None:
-            self._write(self._links[number])
-        return len(self._links) < count
+        links, link_to_write = self._links, self._calls.link_to_write
+        count, number = len(links), link_to_write()
+        if number is None:
+            return False
+        while number is not None:
+            self._write(links[number])
+            number = link_to_write()
+        # The silence of a link that owes a reply begins at the time that is told next.
+        self._calls.advance(_now())
+        return len(links) < count
 
     def _wait_time(self) -> float:
         """In how many seconds the next turn is due, if nothing happens before."""

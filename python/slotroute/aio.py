@@ -17,9 +17,9 @@ class TaskWaiter(Waiter):
 
     def __init__(self, count: int, future: asyncio.Future[None]) -> None:
         self.future = future
-        super().__init__(count, self._end)
+        super().__init__(count)
 
-    def _end(self) -> None:
+    def finish(self) -> None:
         if not self.future.done():
             self.future.set_result(None)
 

@@ -27,7 +27,7 @@ class ThreadWaiter(Waiter):
         self.is_over = False
         # Whether the thread waits without the client's lock.
         self.is_idle = False
-        super().__init__(count, self._end)
+        super().__init__(count)
 
     def sleep(self) -> None:
         """Waits until it is woken, also before now, or for some time."""
@@ -38,7 +38,7 @@ class ThreadWaiter(Waiter):
         if self._gate.locked():
             self._gate.release()
 
-    def _end(self) -> None:
+    def finish(self) -> None:
         self.is_over = True
         self.wake()
 
@@ -91,8 +91,7 @@ class Cluster(Client):
         says whether the command may have taken effect. After each error the client can be used
         further, unless it is closed. `InvalidResponse`: what a node sent is no reply of RESP2.
         """
-        [reply] = self._replies([request(*words)], timeout)
-        return checked(reply)
+        return checked(self._replies([request(*words)], timeout)[0])
 
     def pipeline(self) -> Pipeline:
         """Commands that are sent at once."""
@@ -113,8 +112,7 @@ class Cluster(Client):
 
     def _replies(self, requests: list[bytes], timeout: float | None) -> list[bytes]:
         """The replies to requests of this thread."""
-        deadline = self._deadline(timeout)
-        waiter = self._wait(ThreadWaiter(len(requests)), requests, deadline)
+        waiter = self._wait(ThreadWaiter(len(requests)), requests, self._deadline(timeout))
         if waiter.error is not None:
             raise waiter.error
         return waiter.replies
@@ -129,7 +127,7 @@ class Cluster(Client):
             try:
                 self._threads.add(waiter)
                 if self._driver is None:
-                    self._take_waiting_events(waiter)
+                    self._take_waiting_events()
                 if requests is None:
                     self._begin_first(waiter, deadline)
                 else:
@@ -159,7 +157,7 @@ class Cluster(Client):
             self._driver = waiter
             try:
                 while not waiter.is_over:
-                    self._take_events(waiter, self._wait_time())
+                    self._take_events(self._unlocked(waiter, self._poll.poll, self._wait_time()))
                     if not self._is_closed:
                         self._turn()
             finally:
@@ -174,11 +172,15 @@ class Cluster(Client):
         if self._driver is None and (waiter := next(iter(self._threads), None)):
             waiter.wake()
 
-    def _take_events(self, waiter: ThreadWaiter, wait: float) -> int:
-        """Waits for the sockets, and reads and writes those that are ready. Returns how many
-        were."""
-        poll = self._poll.poll
-        events = self._unlocked(waiter, poll, wait) if wait else poll(0)
+    def _take_waiting_events(self) -> None:
+        """Takes what came while no thread waited, such as the end of a link."""
+        for _ in range(16):
+            if not (events := self._poll.poll(0)):
+                return
+            self._take_events(events)
+
+    def _take_events(self, events: list[tuple[int, int]]) -> None:
+        """Reads and writes the sockets that are ready. What one of them does may end another."""
         ready = [(fd, mask, self._watched.get(fd)) for fd, mask in events]
         for fd, mask, watched in ready:
             read, write = watched or (None, None)
@@ -186,13 +188,6 @@ class Cluster(Client):
                 write()
             if read and mask & ~select.EPOLLOUT and self._watched.get(fd) is watched:
                 read()
-        return len(events)
-
-    def _take_waiting_events(self, waiter: ThreadWaiter) -> None:
-        """Takes what came while no thread waited, such as the end of a link."""
-        for _ in range(16):
-            if not self._take_events(waiter, 0):
-                return
 
     def _unlocked(self, waiter: ThreadWaiter, wait: Callable[..., Any], *words: Any) -> Any:
         """What a call gives that waits without the lock. It has the lock again also if the handler

@@ -13,6 +13,11 @@ def value_of(reply: bytes) -> Value:
     """The value of one whole reply of RESP2: bytes, an int, None, or a list of values. An error is
     an exception, which is returned and not raised. What is no reply is an `InvalidResponse`."""
     try:
+        if reply[:1] == b"$":  # most replies, so they are read at once
+            end = reply.index(b"\r\n")
+            text = reply[1:end]
+            if text.isdigit() and int(text) + end + 4 == len(reply):
+                return reply[end + 2 : -2]
         return _value(reply)
     except (ValueError, IndexError) as fault:
         raise InvalidResponse(f"no reply of RESP2: {reply[:80]!r}") from fault
