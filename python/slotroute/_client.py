@@ -292,9 +292,9 @@ class Client:
     def _write_links(self) -> bool:
         """Writes on the links on which something was asked. Returns whether one of them ended."""
         links, link_to_write = self._links, self._calls.link_to_write
-        count, number = len(links), link_to_write()
-        if number is None:
+        if (number := link_to_write()) is None:
             return False
+        count = len(links)
         while number is not None:
             self._write(links[number])
             number = link_to_write()

@@ -152,13 +152,17 @@ class Cluster(Client):
 
     def _drive_or_sleep(self, waiter: ThreadWaiter) -> None:
         """Drives until the replies are there. If another thread drives, sleeps until it has the
-        replies or ends."""
+        replies or ends. If no other thread waits, what the session wants after the replies waits
+        for the next command, as what comes later does."""
         if self._driver is None:
             self._driver = waiter
             try:
                 while not waiter.is_over:
                     self._take_events(self._unlocked(waiter, self._poll.poll, self._wait_time()))
-                    if not self._is_closed:
+                    if self._is_closed:
+                        break
+                    self._give_replies()
+                    if not waiter.is_over or len(self._threads) > 1:
                         self._turn()
             finally:
                 self._driver = None
