@@ -1,8 +1,7 @@
 /* A client of a cluster over slotroute.h: client HOST:PORT [HOST:PORT ...]
  *
- * Reads commands from standard input, one a line, as words with spaces between them. All lines are
- * asked at once. Prints each reply as its bytes, in the order of the lines. The reply to a command that
- * the session refuses comes before them. It owns what a session does not: sockets, poll and the clock. */
+ * Reads commands from standard input, one a line, as words with spaces between them. Many are asked at
+ * once. Prints the replies as bytes, in the order of the lines. A refusal comes before awaited replies. */
 #define _GNU_SOURCE
 #include "slotroute.h"
 
@@ -15,17 +14,20 @@
 #include <time.h>
 #include <unistd.h>
 
-enum { LINKS = 64, ROOM = 65536 };
+enum { LINKS = 64, ROOM = 65536, HEAD = 32, MOST_AWAITED = 256 };
 
 static slotroute_session session;
 static int sockets[LINKS]; /* by the number of the link; -1: no connection */
 static uint8_t bytes[ROOM];
+static size_t awaited; /* how many replies are awaited */
 
 static uint64_t now(void) {
     struct timespec time;
     clock_gettime(CLOCK_MONOTONIC, &time);
     return (uint64_t)time.tv_sec * 1000 + (uint64_t)time.tv_nsec / 1000000;
 }
+
+static int closed(int socket) { return close(socket), -1; }
 
 static int connection(const char *host, unsigned port) {
     struct addrinfo wanted = {.ai_socktype = SOCK_STREAM}, *found;
@@ -35,10 +37,7 @@ static int connection(const char *host, unsigned port) {
     if (getaddrinfo(host, service, &wanted, &found) != 0) return to;
     for (struct addrinfo *at = found; at && to < 0; at = at->ai_next) {
         to = socket(at->ai_family, at->ai_socktype, at->ai_protocol);
-        if (to >= 0 && connect(to, at->ai_addr, at->ai_addrlen) != 0) {
-            close(to);
-            to = -1;
-        }
+        if (to >= 0 && connect(to, at->ai_addr, at->ai_addrlen) != 0) to = closed(to);
     }
     freeaddrinfo(found);
     return to;
@@ -52,10 +51,7 @@ static void connect_wanted(void) {
         slotroute_node_address address = {0};
         slotroute_session_address(&session, node, (uint8_t *)host, sizeof host - 1, &address);
         int to = connection(host, address.port);
-        if (to >= LINKS) {
-            close(to);
-            to = -1;
-        }
+        if (to >= LINKS) to = closed(to);
         if (to < 0) slotroute_session_unreachable(&session, node);
         else if (slotroute_session_connected(&session, node, &link) != SLOTROUTE_DONE) close(to);
         else sockets[link] = to;
@@ -63,18 +59,18 @@ static void connect_wanted(void) {
 }
 
 static void end(size_t link) {
-    close(sockets[link]);
-    sockets[link] = -1;
+    sockets[link] = closed(sockets[link]);
     slotroute_session_ended(&session, link);
 }
 
-/* Writes what a link has to be written, as much as its socket takes. */
+/* Writes what a link has to be written. */
 static void write_link(size_t link) {
-    size_t count = slotroute_session_unwritten(&session, link, bytes, ROOM);
-    if (count == 0) return;
-    ssize_t written = send(sockets[link], bytes, count < ROOM ? count : ROOM, MSG_NOSIGNAL);
-    if (written < 0) end(link);
-    else slotroute_session_wrote(&session, link, (size_t)written);
+    size_t count;
+    while ((count = slotroute_session_unwritten(&session, link, bytes, ROOM)) > 0) {
+        ssize_t written = send(sockets[link], bytes, count < ROOM ? count : ROOM, MSG_NOSIGNAL);
+        if (written < 0) end(link);
+        else slotroute_session_wrote(&session, link, (size_t)written);
+    }
 }
 
 static void read_link(size_t link) {
@@ -83,45 +79,50 @@ static void read_link(size_t link) {
     else slotroute_session_read(&session, link, bytes, (size_t)count);
 }
 
-/* Prints the replies that are there. Returns how many there are. */
-static size_t print_replies(void) {
+/* Prints the replies that are there. */
+static void print_replies(void) {
     slotroute_due_reply reply;
-    size_t count = 0;
-    while (slotroute_session_next_reply(&session, &reply) == SLOTROUTE_DONE) {
-        uint8_t *text = malloc(reply.bytes);
-        if (!text && reply.bytes) exit(1);
+    for (; slotroute_session_next_reply(&session, &reply) == SLOTROUTE_DONE; awaited--) {
+        uint8_t *text = reply.bytes > ROOM ? malloc(reply.bytes) : bytes;
+        if (!text) exit(1);
         slotroute_session_reply(&session, text, reply.bytes);
         fwrite(text, 1, reply.bytes, stdout);
-        free(text);
-        count++;
+        if (text != bytes) free(text);
     }
-    return count;
 }
 
-/* Begins the call of a line. Returns whether a reply is awaited. */
-static int begin(char *line) {
-    char request[ROOM], words[ROOM];
-    uint64_t count = 0, len = 0, call;
-    char *word = strtok(line, " \r\n");
-    for (; word && len + strlen(word) + 64 < ROOM; count++) {
-        len += (size_t)sprintf(words + len, "$%zu\r\n%s\r\n", strlen(word), word);
+/* Begins the call of a line. The request is written to bytes, its head at last, before its words. */
+static void begin(char *line) {
+    uint8_t *end = bytes + HEAD, *start = end;
+    char *word = strtok(line, " \r\n"), head[HEAD];
+    uint64_t count = 0, call;
+    for (; word && strlen(word) + 2 * HEAD < (size_t)(bytes + ROOM - end); count++) {
+        end += sprintf((char *)end, "$%zu\r\n%s\r\n", strlen(word), word);
         word = strtok(NULL, " \r\n");
     }
     if (word) fputs("client: a line is too long\n", stderr);
-    if (word || count == 0) return 0;
-    int head = snprintf(request, sizeof request, "*%zu\r\n", (size_t)count);
-    memcpy(request + head, words, len);
-    uint32_t answer = slotroute_session_begin(&session, 0, (uint8_t *)request, (size_t)head + len,
-                                              now() + 5000, &call);
-    if (answer == SLOTROUTE_DONE) return 1;
-    fwrite(bytes, 1, slotroute_refusal_reply(answer, bytes, ROOM), stdout);
-    return 0;
+    if (word || count == 0) return;
+    start -= snprintf(head, sizeof head, "*%zu\r\n", (size_t)count);
+    memcpy(start, head, strlen(head));
+    uint32_t answer =
+        slotroute_session_begin(&session, 0, start, (size_t)(end - start), now() + 5000, &call);
+    if (answer == SLOTROUTE_DONE) awaited++;
+    else fwrite(bytes, 1, slotroute_refusal_reply(answer, bytes, ROOM), stdout);
+}
+
+/* Begins the calls of further lines, many at once. Returns whether there may be more lines. */
+static int begin_lines(void) {
+    static char *line;
+    static size_t size;
+    if (awaited > MOST_AWAITED / 2) return 1;
+    for (; awaited < MOST_AWAITED; begin(line))
+        if (getline(&line, &size, stdin) <= 0) return 0;
+    return 1;
 }
 
 int main(int count, char **nodes) {
     slotroute_session_settings settings = {1 << 29, 100000, 1 << 30, 10000, 100, 100};
-    size_t awaited = 0, node, link, size = 0;
-    char *line = NULL;
+    size_t node, link;
     if (slotroute_session_open(&settings, NULL, 0, &session) != SLOTROUTE_DONE) return 1;
     for (size_t i = 0; i < LINKS; i++) sockets[i] = -1;
     for (int i = 1; i < count; i++) {
@@ -130,10 +131,9 @@ int main(int count, char **nodes) {
         slotroute_session_add_node(&session, (uint8_t *)nodes[i], (size_t)(colon - nodes[i]),
                                    (uint16_t)atoi(colon + 1), &node);
     }
-    slotroute_session_advance(&session, now());
-    while (getline(&line, &size, stdin) > 0) awaited += (size_t)begin(line);
-    while (awaited > 0) {
+    while (begin_lines() || awaited > 0) {
         struct pollfd polled[LINKS];
+        slotroute_session_advance(&session, now());
         connect_wanted();
         while (slotroute_session_link_to_close(&session, &link) == SLOTROUTE_DONE) end(link);
         for (size_t i = 0; i < LINKS; i++) {
@@ -143,10 +143,8 @@ int main(int count, char **nodes) {
         poll(polled, LINKS, 10);
         for (size_t i = 0; i < LINKS; i++)
             if (sockets[i] >= 0 && polled[i].revents) read_link(i);
-        slotroute_session_advance(&session, now());
-        awaited -= print_replies();
+        print_replies();
     }
-    free(line);
     slotroute_session_close(session);
     return 0;
 }

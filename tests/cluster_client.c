@@ -13,7 +13,6 @@ static struct {
     uint64_t call, number;
     int is_open;
 } calls[MOST_CALLS];
-static size_t awaited;
 static uint8_t input[4 * ROOM];
 static size_t input_len;
 
