@@ -286,7 +286,7 @@ def request(*words: bytes | str | int | float) -> bytes:
     `TypeError`, also `None`, `True` and `False`."""
     fields: list[Any] = [len(words)]
     for it in words:
-        data = it if type(it) is bytes else _encoded(it)
+        data = it if type(it) is bytes else it.encode() if type(it) is str else _encoded(it)
         fields += len(data), data
     return (b"*%d\r\n" + b"$%d\r\n%b\r\n" * len(words)) % tuple(fields)
 

@@ -4,7 +4,7 @@ from __future__ import annotations
 
 import ctypes
 from ctypes import POINTER, byref, c_size_t, c_uint16, c_uint32, c_uint64, c_void_p
-from typing import Any, NoReturn, Sequence
+from typing import Any, Iterator, NoReturn, Sequence
 
 from . import BYTES_IN, BYTES_OUT, DONE, NOT_THERE, Fields, Library, Refused, Told
 
@@ -165,17 +165,17 @@ class Calls:
         self._link.value = link
         return self._ended(self._at, self._link)
 
-    def next_reply(self) -> tuple[int, int, bytes] | None:
-        """The caller, the number and the bytes of the next reply."""
-        answer = self._next_reply(self._at, self._to_due)
-        if answer != DONE:
-            return self._nothing(answer)
-        due, buffer, size = self._due, self._buffer, self._size
-        count = size.value = due.bytes
-        if count > MOST_UNWRITTEN:
-            buffer = ctypes.create_string_buffer(count)
-        self._reply(self._at, buffer, size)
-        return due.caller, due.call, buffer[:count]
+    def replies(self) -> Iterator[tuple[int, int, bytes]]:
+        """The replies that are there: the caller, the number and the bytes of each."""
+        next_reply, at, due, to_due, size = self._next_reply, self._at, self._due, self._to_due, self._size
+        while (answer := next_reply(at, to_due)) == DONE:
+            buffer, count = self._buffer, due.bytes
+            if count > MOST_UNWRITTEN:
+                buffer = ctypes.create_string_buffer(count)
+            size.value = count
+            self._reply(at, buffer, size)
+            yield due.caller, due.call, buffer[:count]
+        self._nothing(answer)
 
     def link_to_close(self) -> int | None:
         answer = self._link_to_close(self._at, self._to_size)

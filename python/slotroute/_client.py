@@ -63,20 +63,14 @@ class Waiter:
     def __init__(self, count: int) -> None:
         self.replies = [b""] * count
         self.error: Exception | None = None
-        self.calls: list[int] = []
+        # The numbers of its calls. A refusal stands in the place of one.
+        self.calls: list[int | Refused] = []
         # How many replies did not come.
         self.missing = 0
 
     def finish(self) -> None:
         """Ends the waiting."""
         raise NotImplementedError
-
-    def take(self, place: int, reply: bytes) -> None:
-        """Takes the reply to the request of this index."""
-        self.replies[place] = reply
-        self.missing -= 1
-        if not self.missing:
-            self.finish()
 
     def fail(self) -> None:
         """Ends the waiting with an error, since the client is closed."""
@@ -194,22 +188,22 @@ class Client:
 
     def _begin(self, waiter: Waiter, requests: Sequence[bytes], caller: int, deadline: int) -> None:
         """Begins the calls of requests. A refusal is a reply that is there at once."""
-        waiters, calls = self._waiters, waiter.calls
-        for place, call in enumerate(self._calls.begin_each(caller, requests, deadline)):
+        waiters = self._waiters
+        waiter.calls = self._calls.begin_each(caller, requests, deadline)
+        for place, call in enumerate(waiter.calls):
             if isinstance(call, Refused):
                 waiter.replies[place] = self._session.refusal_reply(call.answer)
-                continue
-            calls.append(call)
-            waiters[call] = waiter, place
-        waiter.missing = len(calls)
-        if not calls:
+            else:
+                waiters[call] = waiter, place
+                waiter.missing += 1
+        if not waiter.missing:
             waiter.finish()
         self._calls.advance(_now())  # what is late already is not written
 
     def _begin_first(self, waiter: Waiter, deadline: int) -> None:
         """Begins the call whose reply shows that the session has the map of the slots."""
         self._begin(waiter, [FIRST], 0, deadline)
-        self._first_call = next(iter(waiter.calls), None)
+        self._first_call = next((it for it in waiter.calls if isinstance(it, int)), None)
 
     def _expect_map(self, waiter: Waiter) -> None:
         """Raises the error of the first call. A node that does not let this user ask has the
@@ -226,19 +220,21 @@ class Client:
     def _leave(self, waiter: Waiter) -> None:
         """Gives up the calls whose replies did not come. What comes later goes to nobody."""
         for call in waiter.calls if waiter.missing else ():
-            if self._waiters.pop(call, None) and not self._is_closed:
+            if isinstance(call, int) and self._waiters.pop(call, None) and not self._is_closed:
                 self._session.give_up(call)
         waiter.missing = 0
 
     def _give_replies(self) -> None:
         """Gives the replies that are there to those who wait."""
-        next_reply, waiters = self._calls.next_reply, self._waiters
+        waiters = self._waiters
         try:
-            while (reply := next_reply()) is not None:
-                _, call, data = reply
+            for _, call, data in self._calls.replies():
                 if (found := waiters.pop(call, None)) is not None:
                     waiter, place = found
-                    waiter.take(place, data)
+                    waiter.replies[place] = data
+                    waiter.missing -= 1
+                    if not waiter.missing:
+                        waiter.finish()
         except Refused as refused:
             if refused.answer != NO_MEMORY:  # else the next turn goes on
                 raise
@@ -408,8 +404,9 @@ class Client:
         link.first = None
         if self._first_call is not None and (found := self._waiters.pop(self._first_call, None)):
             self._session.give_up(self._first_call)
-            waiter, place = found
-            waiter.take(place, line + end)
+            [waiter, _] = found
+            waiter.replies, waiter.missing = [line + end], 0
+            waiter.finish()
 
     def _write(self, link: Link) -> None:
         """Writes what a link takes now. The rest is written once its socket takes more."""
