@@ -7,7 +7,7 @@ import os
 import socket
 import time
 from functools import partial
-from math import ceil
+from math import ceil, inf
 from typing import Any, Callable, Iterable, Iterator, Sequence, TypeVar
 from urllib.parse import unquote, urlsplit
 
@@ -26,6 +26,8 @@ ROOM = 65536
 FIRST = request("EXISTS", "slotroute")
 # How many bytes the error has at most that ends the first call.
 MOST_FIRST = 4096
+# The reply to the first call if no node to begin with can be reached.
+UNREACHABLE = b"-ERR no node can be reached; the command did not take effect\r\n"
 # Errors of a node that is not ready yet. Another error to the first request ends the first call.
 NOT_YET = (b"-LOADING", b"-CLUSTERDOWN", b"-MASTERDOWN", b"-TRYAGAIN")
 
@@ -87,6 +89,12 @@ class Link:
         self.writes = False
         # What came of the first reply, while it may be an error.
         self.first: bytes | None = b""
+        # Until when the first reply is to begin, while the client has no map.
+        self.until = inf
+
+    def is_quiet(self, now: float) -> bool:
+        """Whether the first reply is late."""
+        return self.first == b"" and self.until <= now
 
 
 class Attempt:
@@ -156,8 +164,8 @@ class Client:
         self._session = self._new_session()
         self._calls = self._session.calls
         self._is_closed = False
-        for host, port in self._nodes:
-            self._session.add_node(host, port)
+        # The nodes to begin with that were not found unreachable yet.
+        self._seeds = {self._session.add_node(host, port) for host, port in self._nodes}
 
     # What a client does its own way.
 
@@ -278,12 +286,25 @@ class Client:
             count += 1
             host, port = self._session.address(node)
             self._resolve(host, port, partial(self._attempt, node))
-        if self._attempts:
-            now = time.monotonic()
-            for attempt in [it for it in self._attempts if it.until <= now]:
-                count += 1
-                self._try_next(attempt)
+        if self._attempts or self._first_call is not None:
+            count += self._end_late()
         return count > 0
+
+    def _end_late(self) -> int:
+        """Ends the connections that take too long, and returns how many. While there is no map, a
+        link without a first reply is one of these: another node may give the map."""
+        now = time.monotonic()
+        attempts = [it for it in self._attempts if it.until <= now]
+        links = [it for it in self._unmapped_links() if it.is_quiet(now)]
+        for attempt in attempts:
+            self._try_next(attempt)
+        for link in links:
+            self._end(link)
+        return len(attempts) + len(links)
+
+    def _unmapped_links(self) -> Iterable[Link]:
+        """All links, while the client has no map."""
+        return () if self._first_call is None else self._links.values()
 
     def _write_links(self) -> bool:
         """Writes on the links on which something was asked. Returns whether one of them ended."""
@@ -301,7 +322,10 @@ class Client:
     def _wait_time(self) -> float:
         """In how many seconds the next turn is due, if nothing happens before."""
         now = time.monotonic()
-        until = min((it.until for it in self._attempts), default=now + self.LONGEST_WAIT)
+        until = now + self.LONGEST_WAIT
+        if self._attempts or self._first_call is not None:
+            waits = [it.until for it in self._unmapped_links() if it.first == b""]
+            until = min([until, *waits, *(it.until for it in self._attempts)])
         if (named := self._calls.next_time()) is not None:
             until = min(until, named / 1000)
         return max(0.0, until - now)
@@ -324,6 +348,9 @@ class Client:
                 self._watch(sock, None, partial(self._finish, attempt))
                 return
         self._session.unreachable(attempt.node)
+        self._seeds.discard(attempt.node)
+        if not self._seeds and not self._links:
+            self._end_first(UNREACHABLE)
 
     def _drop_socket(self, attempt: Attempt) -> None:
         """Closes the socket of an attempt, if it has one."""
@@ -402,10 +429,14 @@ class Client:
         if not end:
             return
         link.first = None
+        self._end_first(line + end)
+
+    def _end_first(self, reply: bytes) -> None:
+        """Ends the first call with an error, if it waits."""
         if self._first_call is not None and (found := self._waiters.pop(self._first_call, None)):
             self._session.give_up(self._first_call)
             [waiter, _] = found
-            waiter.replies, waiter.missing = [line + end], 0
+            waiter.replies, waiter.missing = [reply], 0
             waiter.finish()
 
     def _write(self, link: Link) -> None:
@@ -421,6 +452,8 @@ class Client:
                 self._end(link)
                 return
             calls.wrote(number, count)
+            if link.first is not None:
+                link.until = min(link.until, time.monotonic() + self._connect_timeout)
             is_more = count < len(data) or count == MOST_UNWRITTEN
         if link.writes:
             self._watch_writes(link, False)

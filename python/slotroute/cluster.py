@@ -59,8 +59,10 @@ class Cluster(Client):
     that owes a reply may be silent up to `silence`; 0 is for ever. A node that cannot run a command
     yet is asked again after `pause`, up to `retries` times.
 
-    Raises `ConnectionError` if no node gives the map of the slots in time, and the error of a node
-    that refuses the login. A library without sessions is an `ImportError`.
+    Raises `ConnectionError` if no node can be reached, or none gives the map of the slots in time,
+    and the error of a node that refuses the login. A node that has not begun to answer after
+    `connect_timeout` is left for another one, until there is a map. A library without sessions is
+    an `ImportError`.
     """
 
     def _open(self) -> None:
