@@ -132,7 +132,8 @@ class Calls:
     ) -> list[int | Refused]:
         """The numbers of calls, one for each request. A refusal stands in the place of a number."""
         begin, at, size = self._begin, self._at, self._size
-        by, until, number, to_number = c_uint64(caller), c_uint64(deadline), self._number, self._to_number
+        number, to_number = self._number, self._to_number
+        by, until = c_uint64(caller), c_uint64(deadline)
         begun: list[int | Refused] = []
         for it in requests:
             size.value = len(it)
@@ -157,8 +158,9 @@ class Calls:
         answer = self._next_time(self._at, self._to_number)
         return self._number.value if answer == DONE else self._nothing(answer)
 
-    def read(self, link: int, data: bytes) -> int:
-        self._link.value, self._size.value = link, len(data)
+    def read(self, link: int, data: Any, count: int) -> int:
+        """Takes so many bytes of what ctypes passes as a pointer."""
+        self._link.value, self._size.value = link, count
         return self._read(self._at, self._link, data, self._size)
 
     def ended(self, link: int) -> int:
@@ -167,7 +169,8 @@ class Calls:
 
     def replies(self) -> Iterator[tuple[int, int, bytes]]:
         """The replies that are there: the caller, the number and the bytes of each."""
-        next_reply, at, due, to_due, size = self._next_reply, self._at, self._due, self._to_due, self._size
+        next_reply, at, size = self._next_reply, self._at, self._size
+        due, to_due = self._due, self._to_due
         while (answer := next_reply(at, to_due)) == DONE:
             buffer, count = self._buffer, due.bytes
             if count > MOST_UNWRITTEN:

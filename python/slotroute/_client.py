@@ -6,6 +6,7 @@ import errno
 import os
 import socket
 import time
+from ctypes import create_string_buffer
 from functools import partial
 from math import ceil, inf
 from typing import Any, Callable, Iterable, Iterator, Sequence, TypeVar
@@ -143,6 +144,8 @@ class Client:
             retries=retries,
             library=library,
         )
+        # What is read goes here, so that no read takes new memory.
+        self._input: Any = create_string_buffer(ROOM)
         self._links: dict[int, Link] = {}
         self._attempts: set[Attempt] = set()
         # Who waits for the reply to a call, and the index of its request there.
@@ -405,17 +408,17 @@ class Client:
     def _read(self, link: Link) -> None:
         """Reads what came on a link."""
         try:
-            data = link.sock.recv(ROOM)
+            count = link.sock.recv_into(self._input)
         except (BlockingIOError, InterruptedError):
             return
         except OSError:
-            data = b""
-        if not data:
+            count = 0
+        if count == 0:
             self._end(link)
             return
         if link.first is not None:
-            self._note_first(link, link.first + data[:MOST_FIRST])
-        self._calls.read(link.number, data)
+            self._note_first(link, link.first + self._input[: min(count, MOST_FIRST)])
+        self._calls.read(link.number, self._input, count)
 
     def _note_first(self, link: Link, first: bytes) -> None:
         """Looks whether the first reply on a link is an error. A client that has no map yet is told

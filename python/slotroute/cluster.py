@@ -253,7 +253,8 @@ class Cluster(Client):
     # Sockets.
 
     def _watch(self, sock: socket.socket, read: Callback | None, write: Callback | None) -> None:
-        fd, events = sock.fileno(), (read and select.EPOLLIN or 0) | (write and select.EPOLLOUT or 0)
+        fd = sock.fileno()
+        events = (select.EPOLLIN if read else 0) | (select.EPOLLOUT if write else 0)
         is_known = fd in self._watched
         if events == 0:
             if is_known:

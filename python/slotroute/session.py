@@ -150,8 +150,9 @@ class Session:
     def read(self, link: int, data: Data) -> None:
         """Takes what was read on a link. Nothing changes if no open link has this number.
         `NO_MEMORY`: `link_to_close` may name the link. Else a call without bytes goes on."""
+        data = _bytes_of(data)
         with self._lock:
-            self._expect_done(self.calls.read(_unsigned(link), _bytes_of(data)))
+            self._expect_done(self.calls.read(_unsigned(link), data, len(data)))
 
     def ended(self, link: int) -> None:
         """Notes that the connection of a link ended, or was closed. Its number may be given to
