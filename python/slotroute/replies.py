@@ -7,13 +7,14 @@ from typing import TypeAlias
 from .errors import InvalidResponse, error_of
 
 Value: TypeAlias = "bytes | int | None | Exception | list[Value]"
+BULK = ord("$")
 
 
 def value_of(reply: bytes) -> Value:
     """The value of one whole reply of RESP2: bytes, an int, None, or a list of values. An error is
     an exception, which is returned and not raised. What is no reply is an `InvalidResponse`."""
     try:
-        if reply[:1] == b"$":  # most replies, so they are read at once
+        if reply[0] == BULK:  # most replies, so they are read at once
             end = reply.index(b"\r\n")
             text = reply[1:end]
             if text.isdigit() and int(text) + end + 4 == len(reply):
