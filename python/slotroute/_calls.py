@@ -4,10 +4,11 @@ from __future__ import annotations
 
 import ctypes
 from ctypes import POINTER, byref, c_size_t, c_uint16, c_uint32, c_uint64, c_void_p
-from typing import Any, Iterator, NoReturn, Sequence
+from typing import Any, Callable, Iterator, NoReturn, Sequence
 
 from . import BYTES_IN, BYTES_OUT, DONE, NOT_THERE, Fields, Library, Refused, Told
 
+Call = Callable[..., int]
 MOST_UNWRITTEN = 65536
 """How many bytes `Session.unwritten` gives at most."""
 
@@ -101,6 +102,19 @@ class Calls:
     `ValueError`. The docstrings of `Session` say what the calls do.
     """
 
+    _advance: Call
+    _begin: Call
+    _link_to_write: Call
+    _unwritten: Call
+    _wrote: Call
+    _next_time: Call
+    _read: Call
+    _ended: Call
+    _next_reply: Call
+    _reply: Call
+    _link_to_close: Call
+    _wanted_node: Call
+
     def __init__(self, library: Library, lib: ctypes.PyDLL, session: Handle) -> None:
         self._library, self._at = library, byref(session)
         for name, gives in _FREQUENT:
@@ -142,21 +156,20 @@ class Calls:
         return begun
 
     def link_to_write(self) -> int | None:
-        answer = self._link_to_write(self._at, self._to_size)
-        return self._size.value if answer == DONE else self._nothing(answer)
+        return self._named(self._link_to_write(self._at, self._to_size), self._size)
 
     def unwritten(self, link: int) -> bytes:
         self._link.value = link
         count = self._unwritten(self._at, self._link, self._buffer, self._room)
-        return self._buffer[: min(count, MOST_UNWRITTEN)]
+        unwritten: bytes = self._buffer[: min(count, MOST_UNWRITTEN)]
+        return unwritten
 
     def wrote(self, link: int, count: int) -> int:
         self._link.value, self._size.value = link, count
         return self._wrote(self._at, self._link, self._size)
 
     def next_time(self) -> int | None:
-        answer = self._next_time(self._at, self._to_number)
-        return self._number.value if answer == DONE else self._nothing(answer)
+        return self._named(self._next_time(self._at, self._to_number), self._number)
 
     def read(self, link: int, data: Any, count: int) -> int:
         """Takes so many bytes of what ctypes passes as a pointer."""
@@ -178,20 +191,23 @@ class Calls:
             size.value = count
             self._reply(at, buffer, size)
             yield due.caller, due.call, buffer[:count]
-        self._nothing(answer)
-
-    def link_to_close(self) -> int | None:
-        answer = self._link_to_close(self._at, self._to_size)
-        return self._size.value if answer == DONE else self._nothing(answer)
-
-    def wanted_node(self) -> int | None:
-        answer = self._wanted_node(self._at, self._to_size)
-        return self._size.value if answer == DONE else self._nothing(answer)
-
-    def _nothing(self, answer: int) -> None:
-        """Raises the error of a code, unless it says that there is nothing to name."""
         if answer != NOT_THERE:
             raise self.refused(answer)
+
+    def link_to_close(self) -> int | None:
+        return self._named(self._link_to_close(self._at, self._to_size), self._size)
+
+    def wanted_node(self) -> int | None:
+        return self._named(self._wanted_node(self._at, self._to_size), self._size)
+
+    def _named(self, answer: int, number: Any) -> int | None:
+        """The number that a call wrote, or None if it named none."""
+        if answer == NOT_THERE:
+            return None
+        if answer != DONE:
+            raise self.refused(answer)
+        named: int = number.value
+        return named
 
 
 def _closed(*_: Any) -> NoReturn:

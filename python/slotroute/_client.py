@@ -231,8 +231,10 @@ class Client:
     def _leave(self, waiter: Waiter) -> None:
         """Gives up the calls whose replies did not come. What comes later goes to nobody."""
         for call in waiter.calls if waiter.missing else ():
-            if isinstance(call, int) and self._waiters.pop(call, None) and not self._is_closed:
-                self._session.give_up(call)
+            if isinstance(call, int) and call in self._waiters:
+                del self._waiters[call]
+                if not self._is_closed:
+                    self._session.give_up(call)
         waiter.missing = 0
 
     def _give_replies(self) -> None:

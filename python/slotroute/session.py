@@ -69,6 +69,7 @@ class Session:
         # Who has it may make calls.
         self._lock = threading.RLock()
         self._handle = Handle()
+        # For the clients of this package, which have a lock of their own.
         self.calls = Calls(self._library, self._lib, self._handle)
         sizes = [_unsigned(it) for it in (most_reply_bytes, most_calls, most_bytes, silence, pause)]
         settings = Settings(*sizes, _unsigned(retries, 32))
