@@ -4,8 +4,10 @@ import os
 import signal
 import subprocess
 import tempfile
+import time
+from contextlib import suppress
 
-from shared import FAKE, ROOT, is_open
+from shared import FAKE, ROOT, Client, is_open, until
 
 CLUSTER = FAKE + 2  # the first port of another cluster
 
@@ -31,6 +33,36 @@ def try_make():
             found.append(run.returncode == 2 and f"no {folder}/no/such/lib/libslotroute.a: tools/c-archive" in run.stderr)
     print(found)
     return found == [True] * 6
+
+
+def stands_still(port, folder, seconds):
+    """Has a node stand still for some seconds once it meets other nodes. Gives whether it did."""
+    until(30, lambda: is_open(port))
+    nodes = Client(port)
+    if until(30, lambda: b"handshake" in nodes.ask("CLUSTER", "NODES")) is None:
+        return False
+    process = int(open(f"{folder}/slotroute-cluster-{CLUSTER}/{port}/pid").read())
+    os.kill(process, signal.SIGSTOP)
+    time.sleep(seconds)
+    os.kill(process, signal.SIGCONT)
+    return True
+
+
+def try_cluster_start():
+    """`examples/cluster start` makes a cluster, also if a node stands still while the nodes meet each other."""
+    with tempfile.TemporaryDirectory() as folder:
+        environment = os.environ | {"PORT": str(CLUSTER), "TMPDIR": folder}
+        with subprocess.Popen([f"{ROOT}/examples/cluster", "start"], env=environment, stdout=subprocess.PIPE, text=True) as start:
+            try:
+                stood = stands_still(CLUSTER, folder, 5)
+                with suppress(subprocess.TimeoutExpired):
+                    start.wait(60)
+            finally:
+                start.kill()
+                subprocess.run([f"{ROOT}/examples/cluster", "stop"], env=environment, timeout=60)
+            found = stood, start.returncode, start.stdout.read()
+    print(*found)
+    return stood and start.returncode == 0
 
 
 def try_cluster_stop():
