@@ -109,7 +109,7 @@ def port_of(key):
 
 
 def has_replica(port, state="connected_slaves:1"):
-    return state.encode() in Client(port).ask("INFO", "replication")
+    return state in str(Client(port).ask("INFO", "replication"))  # an error while the node loads its data
 
 
 def process_of(port):

@@ -168,7 +168,7 @@ def heal():
         if not is_open(port):
             restart(port)
     started = until(60, lambda: all(is_open(port) for port in range(PORT, PORT + 6)))
-    served = until(60, lambda: "cluster_state:ok" in Client(PORT).ask("CLUSTER", "INFO").decode())
+    served = until(60, lambda: "cluster_state:ok" in str(Client(PORT).ask("CLUSTER", "INFO")))
     ready = until(60, lambda: all(has_replica(port, "state=online") for port in set(primaries().values())))
     if started is None or served is None or ready is None:
         raise AssertionError("the cluster is not whole")
