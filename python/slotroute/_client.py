@@ -12,7 +12,7 @@ from math import ceil, inf
 from typing import Any, Callable, Iterable, Iterator, Sequence, TypeVar
 from urllib.parse import unquote, urlsplit
 
-from . import NO_MEMORY, Library, Refused, request
+from . import DONE, NO_MEMORY, Library, Refused, request
 from .errors import ConnectionError, error_of
 from .session import FOREVER, MOST_UNWRITTEN, Session
 
@@ -88,6 +88,8 @@ class Link:
     def __init__(self, sock: socket.socket, number: int) -> None:
         self.sock, self.number = sock, number
         self.writes = False
+        # Whether replies came that could not be taken, since memory ran out.
+        self.is_behind = False
         # What came of the first reply, while it may be an error.
         self.first: bytes | None = b""
         # Until when the first reply is to begin, while the client has no map.
@@ -113,6 +115,8 @@ class Client:
 
     # How long to wait at most for an event: selectors take no time that is much longer.
     LONGEST_WAIT = 3600.0
+    # How long to wait at most after memory ran out.
+    SHORTEST_WAIT = 0.01
 
     def __init__(
         self,
@@ -151,6 +155,8 @@ class Client:
         # Who waits for the reply to a call, and the index of its request there.
         self._waiters: dict[int, tuple[Waiter, int]] = {}
         self._first_call: int | None = None
+        # Whether memory ran out in the last turn, or after it.
+        self._lacks_memory = False
         self._open_session()
         self._open()
 
@@ -209,7 +215,7 @@ class Client:
                 waiter.missing += 1
         if not waiter.missing:
             waiter.finish()
-        self._calls.advance(_now())  # what is late already is not written
+        self._advance()  # what is late already is not written
 
     def _begin_first(self, waiter: Waiter, deadline: int) -> None:
         """Begins the call whose reply shows that the session has the map of the slots."""
@@ -249,8 +255,7 @@ class Client:
                     if not waiter.missing:
                         waiter.finish()
         except Refused as refused:
-            if refused.answer != NO_MEMORY:  # else the next turn goes on
-                raise
+            self._note(refused.answer)
 
     def _fail_all(self) -> None:
         """Ends all waiting, since the client is closed."""
@@ -262,7 +267,11 @@ class Client:
 
     def _turn(self) -> None:
         """Tells the session the time, and does what it wants."""
-        self._calls.advance(_now())
+        lacks_memory, self._lacks_memory = self._lacks_memory, False
+        self._advance()
+        for link in list(self._links.values()) if lacks_memory else ():
+            if link.is_behind:
+                self._take(link, 0)
         self._do_wanted()
 
     def _do_wanted(self) -> None:
@@ -274,6 +283,18 @@ class Client:
             self._give_replies()
             is_more |= self._close_links()
             is_more |= self._connect()
+
+    def _advance(self) -> None:
+        self._note(self._calls.advance(_now()))
+
+    def _note(self, answer: int) -> bool:
+        """Whether a call of the session did its work. If memory ran out, the next turn is soon. Another
+        answer is raised."""
+        if answer == NO_MEMORY:
+            self._lacks_memory = True
+        elif answer != DONE:
+            raise self._calls.refused(answer)
+        return answer == DONE
 
     def _close_links(self) -> bool:
         """Closes the links that the session wants closed. Returns whether there were some."""
@@ -321,11 +342,13 @@ class Client:
             self._write(links[number])
             number = link_to_write()
         # The silence of a link that owes a reply begins at the time that is told next.
-        self._calls.advance(_now())
+        self._advance()
         return len(links) < count
 
     def _wait_time(self) -> float:
         """In how many seconds the next turn is due, if nothing happens before."""
+        if self._lacks_memory:
+            return self.SHORTEST_WAIT
         now = time.monotonic()
         until = now + self.LONGEST_WAIT
         if self._attempts or self._first_call is not None:
@@ -392,7 +415,7 @@ class Client:
         """Closes the connection of a link."""
         self._close_socket(link.sock)
         del self._links[link.number]
-        self._calls.ended(link.number)
+        self._note(self._calls.ended(link.number))
 
     def _close_all(self) -> None:
         """Closes all connections and the session."""
@@ -420,7 +443,11 @@ class Client:
             return
         if link.first is not None:
             self._note_first(link, link.first + self._input[: min(count, MOST_FIRST)])
-        self._calls.read(link.number, self._input, count)
+        self._take(link, count)
+
+    def _take(self, link: Link, count: int) -> None:
+        """Has the session take what was read on a link. If memory runs out, the next turn goes on."""
+        link.is_behind = not self._note(self._calls.read(link.number, self._input, count))
 
     def _note_first(self, link: Link, first: bytes) -> None:
         """Looks whether the first reply on a link is an error. A client that has no map yet is told

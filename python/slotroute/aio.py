@@ -4,6 +4,7 @@ from __future__ import annotations
 
 import asyncio
 import socket
+from functools import partial
 from typing import Any, Callable, Iterable
 
 from . import request
@@ -144,10 +145,22 @@ class Cluster(Client):
         self._is_turn_due = False
         if self._is_closed or self._loop is None:
             return
-        self._turn()
+        self._guarded(self._turn)
         if self._timer is not None:
             self._timer.cancel()
-        self._timer = self._loop.call_later(self._wait_time(), self._turn_soon)
+        if not self._is_closed:
+            self._timer = self._loop.call_later(self._wait_time(), self._turn_soon)
+
+    def _guarded(self, work: Callback) -> None:
+        """Makes a turn, or takes an event. What this raises is raised. Then sockets may be half done, so
+        all connections are closed: no task waits for what comes no more. The next command connects
+        anew."""
+        try:
+            work()
+        except BaseException:
+            self._stop()
+            self._first = None
+            raise
 
     # Sockets.
 
@@ -166,7 +179,7 @@ class Cluster(Client):
 
     def _take_event(self, callback: Callback) -> None:
         if not self._is_closed:
-            callback()
+            self._guarded(callback)
             self._turn_soon()
 
     def _resolve(self, host: str, port: int, then: Callable[[Iterable[Any]], None]) -> None:
@@ -175,15 +188,15 @@ class Cluster(Client):
         task.add_done_callback(self._lookups.discard)
 
     async def _look_up(self, host: str, port: int, then: Callable[[Iterable[Any]], None]) -> None:
-        """Looks the addresses of a host up without blocking the loop."""
+        """Looks the addresses of a host up without blocking the loop. There are none if that fails, also
+        since no thread can be started."""
         found: Iterable[Any]
         try:
             loop = asyncio.get_running_loop()
             found = await loop.getaddrinfo(host, port, type=socket.SOCK_STREAM)
-        except (OSError, ValueError):
+        except (OSError, ValueError, RuntimeError):
             found = ()
-        then(found)
-        self._turn_soon()
+        self._take_event(partial(then, found))
 
 
 class Pipeline(Commands):
