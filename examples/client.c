@@ -29,14 +29,17 @@ static uint64_t now(void) {
 
 static int closed(int socket) { return close(socket), -1; }
 
+/* A connection to a node, or -1. A node that takes neither a connection nor bytes for half a second fails. */
 static int connection(const char *host, unsigned port) {
     struct addrinfo wanted = {.ai_socktype = SOCK_STREAM}, *found;
+    struct timeval limit = {.tv_usec = 500000};
     char service[8];
     snprintf(service, sizeof service, "%u", port);
     int to = -1;
     if (getaddrinfo(host, service, &wanted, &found) != 0) return to;
     for (struct addrinfo *at = found; at && to < 0; at = at->ai_next) {
         to = socket(at->ai_family, at->ai_socktype, at->ai_protocol);
+        setsockopt(to, SOL_SOCKET, SO_SNDTIMEO, &limit, sizeof limit);
         if (to >= 0 && connect(to, at->ai_addr, at->ai_addrlen) != 0) to = closed(to);
     }
     freeaddrinfo(found);
@@ -75,8 +78,7 @@ static void write_link(size_t link) {
 
 static void read_link(size_t link) {
     ssize_t count = recv(sockets[link], bytes, ROOM, 0);
-    if (count <= 0) end(link);
-    else slotroute_session_read(&session, link, bytes, (size_t)count);
+    if (count <= 0 || slotroute_session_read(&session, link, bytes, (size_t)count) != SLOTROUTE_DONE) end(link);
 }
 
 /* Prints the replies that are there. */
