@@ -1,5 +1,5 @@
-/* Preloaded into a program: counts how often it asks the C library for memory, reads and writes, and
-   refuses what the environment names.
+/* Preloaded into a program, or linked into it: counts how often it asks the C library for memory, reads and
+   writes, and refuses what the environment names, or what the program names by refuse_requests.
 
    REFUSED=N         the request for memory of number N gets none
    REFUSED_FROM=N    neither does any later one
@@ -34,15 +34,30 @@ static unsigned long number_in(const char *name) {
     return text ? strtoul(text, NULL, 10) : 0;
 }
 
+/* The first request that is refused, and how many are. */
+static unsigned long refused_from, refused_count;
+
 static int is_refused(void) {
-    static unsigned long refused, refused_from;
-    if (requests == 0) {
-        refused = number_in("REFUSED");
-        refused_from = number_in("REFUSED_FROM");
-    }
+    static int is_read;
+    if (!is_read && number_in("REFUSED_FROM")) refused_from = number_in("REFUSED_FROM"), refused_count = -1ul;
+    if (!is_read && number_in("REFUSED")) refused_from = number_in("REFUSED"), refused_count = 1;
+    is_read = 1;
     requests++;
-    return !is_over && (requests == refused || (refused_from && requests >= refused_from));
+    return !is_over && refused_from && requests >= refused_from && requests - refused_from < refused_count;
 }
+
+/* Counts requests and blocks anew, and refuses so many requests from the one of this number on. */
+void refuse_requests(unsigned long from, unsigned long count) {
+    requests = 0;
+    blocks = 0;
+    refused_from = from;
+    refused_count = count;
+}
+
+unsigned long count_requests(void) { return requests; }
+
+/* How many blocks were given and are not freed. */
+long count_blocks(void) { return blocks; }
 
 static void *counted(void *block) {
     blocks += block != NULL;
