@@ -9,7 +9,7 @@ import time
 from ctypes import create_string_buffer
 from functools import partial
 from math import ceil, inf
-from typing import Any, Callable, Iterable, Iterator, Sequence, TypeVar
+from typing import Any, Callable, Iterable, Sequence, TypeVar
 from urllib.parse import unquote, urlsplit
 
 from . import DONE, NO_MEMORY, Library, Refused, request
@@ -519,12 +519,12 @@ class Commands:
         return requests
 
 
-def addresses_of(host: str, port: int) -> Iterator[Any]:
+def addresses_of(host: str, port: int, flags: int = 0) -> list[Any]:
     """The addresses of a host, or none if its name is of no use."""
     try:
-        return iter(socket.getaddrinfo(host, port, type=socket.SOCK_STREAM))
+        return list(socket.getaddrinfo(host, port, type=socket.SOCK_STREAM, flags=flags))
     except (OSError, ValueError):
-        return iter(())
+        return []
 
 
 def _connecting_socket(family: int, kind: int, protocol: int, address: Any) -> socket.socket | None:

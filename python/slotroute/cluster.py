@@ -268,7 +268,30 @@ class Cluster(Client):
             self._poll.register(fd, events)
 
     def _resolve(self, host: str, port: int, then: Callable[[Iterable[Any]], None]) -> None:
-        then(addresses_of(host, port))
+        found = addresses_of(host, port, socket.AI_NUMERICHOST)
+        if found:
+            then(found)
+            return
+        look_up = threading.Thread(target=self._look_up, args=(host, port, then), daemon=True)
+        try:
+            look_up.start()
+        except RuntimeError:  # there are too many threads
+            then(())
+
+    def _look_up(self, host: str, port: int, then: Callable[[Iterable[Any]], None]) -> None:
+        """Looks a name up in a thread of its own, since that may last longer than a command has."""
+        found = addresses_of(host, port)
+        with self._lock:
+            if self._is_closed:
+                return
+            try:
+                then(found)
+                self._turn()
+            except BaseException:
+                self._shut()
+                raise
+            if self._driver is not None:
+                self._wake()
 
 
 class Pipeline(Commands):
