@@ -380,6 +380,11 @@ impl Nodes {
         self.busy.first()
     }
 
+    /// Whether the link to some node is ready.
+    pub(crate) fn has_ready(&self) -> bool {
+        self.ready.first().is_some()
+    }
+
     /// The ready link of the node whose turn it is to be asked for the map, if a link is ready.
     pub(crate) fn next_ready(&mut self) -> Option<usize> {
         let node = self.ready.first()?;

@@ -39,6 +39,8 @@ pub struct Session {
     /// How many replies to `CLUSTER SLOTS` could not be used.
     pub(crate) map_faults: u64,
     pub(crate) reply: LastReply,
+    /// Whether a reply is there that could not be made, since memory ran out.
+    pub(crate) is_reply_behind: bool,
 }
 
 impl Model for Session {
@@ -73,6 +75,7 @@ impl Session {
             map_time: 0,
             map_faults: 0,
             reply: LastReply::Nothing,
+            is_reply_behind: false,
         }
     }
 
@@ -212,7 +215,7 @@ impl Session {
             return Ok(());
         };
         self.hear(link, bytes)?;
-        self.take_all(alloc, link)?;
+        self.take_all(alloc, link, !bytes.is_empty())?;
         self.step(alloc)
     }
 
@@ -318,6 +321,7 @@ impl Session {
     }
 
     /// When [`Session::advance`] is to be called next: at once if the time is not after the last one that was noted.
+    /// What could not be asked or given, since memory ran out, is tried again after a pause.
     pub fn next_time(&self) -> Option<u64> {
         let pause = self.schedule.first_pause_end();
         let deadline = match self.schedule.first_deadline() {
@@ -329,7 +333,28 @@ impl Session {
         } else {
             None
         };
-        earlier(self.silence_end(), earlier(map, earlier(pause, deadline)))
+        let behind = if self.is_behind() {
+            Some(self.pause_end())
+        } else {
+            None
+        };
+        earlier(
+            behind,
+            earlier(self.silence_end(), earlier(map, earlier(pause, deadline))),
+        )
+    }
+
+    /// Whether something may be asked now that no step asked, or a reply is there that was not given, since memory
+    /// ran out.
+    fn is_behind(&self) -> bool {
+        self.is_reply_behind
+            || self.schedule.has_ready()
+            || self.is_map_due() && self.nodes.has_ready()
+    }
+
+    /// Whether the map is to be asked for now.
+    pub(crate) fn is_map_due(&self) -> bool {
+        self.is_map_wanted && !self.is_map_asked && self.map_time <= self.now
     }
 
     /// When the first link was silent too long, or at once if a silence is to begin.

@@ -338,7 +338,8 @@ uint32_t slotroute_session_give_up(slotroute_session *session, uint64_t call);
 uint32_t slotroute_session_advance(slotroute_session *session, uint64_t now);
 
 /* Writes the time at which slotroute_session_advance is to be called next to time: at once if it is not after
- * the last one. SLOTROUTE_NOT_THERE: nothing waits for a time. */
+ * the last one. What could not be asked or given, since memory ran out, is tried again after a pause.
+ * SLOTROUTE_NOT_THERE: nothing waits for a time. */
 uint32_t slotroute_session_next_time(slotroute_session *session, uint64_t *time);
 
 /* Whose reply comes next. */

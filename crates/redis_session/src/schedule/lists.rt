@@ -103,6 +103,11 @@ impl Schedule {
         self.enter(seat, Room::Nowhere, None, None);
     }
 
+    /// Whether a part is to be asked in this step.
+    pub(crate) fn has_ready(&self) -> bool {
+        self.ready.first.is_some()
+    }
+
     /// Takes the first part out of the list of those to be asked in this step.
     pub(crate) fn pop_ready(&mut self) -> Option<Seat> {
         let seat = self.ready.first?;

@@ -358,7 +358,7 @@ impl Session {
     pub(crate) fn ask_map(&mut self, alloc: Global) -> Result<(), AllocError>
         ensures { Leads self.old self.new }
     {
-        if !self.is_map_wanted || self.is_map_asked || self.now < self.map_time {
+        if !self.is_map_due() {
             return Ok(());
         }
         let Some(link) = self.nodes.next_ready() else {

@@ -61,6 +61,7 @@ impl Session {
         ensures none { IfOk result (λ next. IfNone next (Leads self.old self.new)) }
         ensures err { OnErr result (Leads self.old self.new) }
     {
+        self.is_reply_behind = false;
         self.forget_reply(alloc);
         for _ in 0..self.schedule.most_callers() {
             let Some(caller) = self.schedule.first_due() else {
@@ -124,7 +125,13 @@ impl Session {
         if !self.is_over(call) {
             return Ok(None);
         }
-        let reply = self.reply_of(alloc, call)?;
+        let reply = match self.reply_of(alloc, call) {
+            Ok(reply) => reply,
+            Err(error) => {
+                self.is_reply_behind = true;
+                return Err(error);
+            }
+        };
         if !self.machine.finish(call) {
             return Ok(None);
         }

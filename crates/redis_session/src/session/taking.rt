@@ -19,13 +19,20 @@ impl Session {
     ghost use Rattle.session_core.specs.State.{Happens, On, IsLink};
     ghost use Rattle.redis_session.specs.Leads.{Leads, Ends, IsConnected};
 
-    /// Takes the replies that came on a link, and notes whether it owes more.
-    pub(crate) fn take_all(&mut self, alloc: Global, link: usize) -> Result<(), AllocError>
+    /// Takes the replies that came on a link, and notes whether it owes more. If no byte came now, its silence goes on.
+    pub(crate) fn take_all(
+        &mut self,
+        alloc: Global,
+        link: usize,
+        is_heard: bool,
+    ) -> Result<(), AllocError>
         ensures { Leads self.old self.new }
     {
         let taken = self.take_replies(alloc, link);
         let owes = self.machine.count_waits(link) > 0;
-        self.nodes.note_heard(link, owes);
+        if is_heard || !owes {
+            self.nodes.note_heard(link, owes);
+        }
         taken
     }
 
