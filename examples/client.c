@@ -106,19 +106,17 @@ static void begin(char *line) {
     if (word || count == 0) return;
     start -= snprintf(head, sizeof head, "*%zu\r\n", (size_t)count);
     memcpy(start, head, strlen(head));
-    uint32_t answer =
-        slotroute_session_begin(&session, 0, start, (size_t)(end - start), now() + 5000, &call);
+    uint32_t answer = slotroute_session_begin(&session, 0, start, (size_t)(end - start), now() + 5000, &call);
     if (answer == SLOTROUTE_DONE) awaited++;
     else fwrite(bytes, 1, slotroute_refusal_reply(answer, bytes, ROOM), stdout);
 }
 
 /* Begins the calls of further lines, many at once. Returns whether there may be more lines. */
 static int begin_lines(void) {
-    static char *line;
-    static size_t size;
+    static struct { char *text; size_t size; } line;
     if (awaited > MOST_AWAITED / 2) return 1;
-    for (; awaited < MOST_AWAITED; begin(line))
-        if (getline(&line, &size, stdin) <= 0) return 0;
+    for (; awaited < MOST_AWAITED; begin(line.text))
+        if (getline(&line.text, &line.size, stdin) <= 0) return 0;
     return 1;
 }
 
