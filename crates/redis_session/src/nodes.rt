@@ -29,6 +29,12 @@ struct LinkRecord {
     silent_since: u64,
 }
 
+/// The number of slots.
+const SLOT_COUNT: usize = 16384;
+
+/// Stands in the place of a node's number if that is not known. It is above each number.
+const NO_NODE: u16 = 65535;
+
 const NO_LINK: LinkRecord = LinkRecord {
     node: None,
     has_replied: false,
@@ -50,6 +56,8 @@ struct Node {
 pub(crate) struct Nodes {
     nodes: Vec<Node>,
     numbers: BTreeMap<NodeAddress, usize>,
+    /// The number of the node of each slot, as far as it was looked up since the last change. It may be empty.
+    by_slot: Vec<u16>,
     /// How many maps were learned.
     map_count: u64,
     /// The nodes that need a link and were not named to the shell yet.
@@ -80,6 +88,7 @@ impl Nodes {
         Nodes {
             nodes: Vec::new(alloc),
             numbers: BTreeMap::new(alloc),
+            by_slot: Vec::new(alloc),
             map_count: 0,
             wanted: NumberQueue::new(alloc),
             busy: NumberQueue::new(alloc),
@@ -131,6 +140,38 @@ impl Nodes {
     /// The address of a node.
     pub(crate) fn address(&self, node: usize) -> Option<&NodeAddress> {
         Some(&self.nodes.get(node)?.address)
+    }
+
+    /// The number of the node of a slot, if it was noted.
+    pub(crate) fn node_of_slot(&self, slot: u16) -> Option<usize> {
+        let node = *self.by_slot.get(slot as usize)?;
+        if node == NO_NODE {
+            None
+        } else {
+            Some(node as usize)
+        }
+    }
+
+    /// Notes the number of the node of a slot, if there is memory for that.
+    pub(crate) fn note_slot(&mut self, slot: u16, node: usize) {
+        if self.by_slot.is_empty() && self.by_slot.resize(SLOT_COUNT, NO_NODE).is_err() {
+            return;
+        }
+        if let (Some(at), Ok(node)) = (self.by_slot.get_mut(slot as usize), u16::try_from(node)) {
+            *at = node;
+        }
+    }
+
+    /// Forgets the node of a slot.
+    pub(crate) fn forget_slot(&mut self, slot: u16) {
+        if let Some(at) = self.by_slot.get_mut(slot as usize) {
+            *at = NO_NODE;
+        }
+    }
+
+    /// Forgets the node of each slot.
+    pub(crate) fn forget_slots(&mut self) {
+        self.by_slot.fill(NO_NODE);
     }
 
     /// Notes that a map was learned, which has these nodes.

@@ -1,13 +1,16 @@
-//! What each part of a call waits for, and which calls are due. Lists go through the records of the parts, so that
-//! to move a part takes no memory.
+//! What each part of a call waits for, and which calls are due. Lists go through the records of the parts and of the
+//! calls, so that to move a part takes no memory.
 
+mod callers;
+mod deadlines;
 mod due;
 mod lists;
 
+use crate::schedule::callers::Callers;
 use redis_routing::ResponsePolicy;
 use session_core::Seat;
 use std::alloc::{AllocError, Global};
-use std::collections::{BTreeMap, BTreeSet, VecDeque};
+use std::collections::{BTreeSet, VecDeque};
 
 /// What a part waits for.
 #[derive(Clone, Copy, Debug, PartialEq, Eq)]
@@ -71,29 +74,57 @@ pub(crate) struct PartRecord {
     redirect_count: u32,
 }
 
+/// Where the parts of a call are asked. One takes no memory.
+#[derive(Debug, Drop)]
+pub(crate) struct Targets {
+    first: Option<Target>,
+    others: Vec<Target>,
+}
+
+/// A call that is to be added.
+#[derive(Debug, Drop)]
+pub(crate) struct NewCall {
+    pub(crate) caller: u64,
+    /// How its reply is made.
+    pub(crate) rule: ReplyRule,
+    pub(crate) deadline: u64,
+    /// How many bytes its request has.
+    pub(crate) bytes: usize,
+    pub(crate) targets: Targets,
+}
+
+/// Where the deadline of a call stands.
+#[derive(Clone, Copy, Debug, PartialEq, Eq)]
+enum DeadlineRoom {
+    /// In no list: the call is owed no reply any more, or is late.
+    Nowhere,
+    /// In the list of rising deadlines.
+    Rising,
+    /// Among the others.
+    Other,
+}
+
 /// A call, as the schedule has it.
 #[derive(Debug, Drop)]
 pub(crate) struct CallRecord {
     caller: u64,
+    /// The place of its caller.
+    place: usize,
     rule: ReplyRule,
     deadline: u64,
+    deadline_room: DeadlineRoom,
+    /// The calls before and after it in the list of rising deadlines.
+    before: Option<u64>,
+    after: Option<u64>,
     is_late: bool,
+    /// Whether it left. Its caller may have no place any more.
+    has_left: bool,
     /// How many bytes its request has.
     bytes: usize,
-    parts: Vec<PartRecord>,
+    /// How many parts were added before it.
+    parts_before: u64,
+    part_count: usize,
     next_of_caller: Option<u64>,
-}
-
-/// A caller, as the schedule has it.
-#[derive(Debug, Drop)]
-struct CallerRecord {
-    barred: SeatList,
-    /// Whether a call of it is kept, and if so the first and the last one.
-    has_calls: bool,
-    first: u64,
-    last: u64,
-    is_due: bool,
-    next_due: Option<u64>,
 }
 
 const NO_SEATS: SeatList = SeatList {
@@ -107,23 +138,50 @@ pub(crate) struct Schedule {
     /// The number of the first call that is kept.
     first: u64,
     calls: VecDeque<CallRecord>,
-    callers: BTreeMap<u64, CallerRecord>,
+    /// How many parts were added and forgotten.
+    parts_gone: u64,
+    /// The parts of the calls, in their order.
+    parts: VecDeque<PartRecord>,
+    callers: Callers,
     /// The parts that wait for a link to each node.
     nodes: Vec<SeatList>,
     ready: SeatList,
     unserved: SeatList,
     paused: SeatList,
-    /// The deadlines of the calls that are owed a reply, with their numbers.
-    deadlines: BTreeSet<(u64, u64)>,
-    /// The callers whose next reply may be there, in a list through their records.
-    first_due: Option<u64>,
-    last_due: Option<u64>,
+    /// The calls that are owed a reply, by rising deadlines, in a list through their records.
+    first_rising: Option<u64>,
+    last_rising: Option<u64>,
+    /// The deadlines of the other calls that are owed a reply, with their numbers.
+    other_deadlines: BTreeSet<(u64, u64)>,
+    /// The places of the callers whose next reply may be there, in a list through their records.
+    first_due: Option<usize>,
+    last_due: Option<usize>,
     /// How many calls are kept: those that began and did not leave.
     call_count: usize,
     /// How many bytes their requests have.
     byte_count: usize,
     /// How many parts they have.
     part_count: usize,
+}
+
+impl Targets {
+    /// None.
+    pub(crate) fn new(alloc: Global) -> Targets {
+        Targets {
+            first: None,
+            others: Vec::new(alloc),
+        }
+    }
+
+    /// Adds where the next part is asked.
+    pub(crate) fn push(&mut self, target: Target) -> Result<(), AllocError> {
+        if self.first.is_none() {
+            self.first = Some(target);
+            return Ok(());
+        }
+        self.others.push(target)?;
+        Ok(())
+    }
 }
 
 impl PartRecord {
@@ -146,12 +204,16 @@ impl Schedule {
         Schedule {
             first: 0,
             calls: VecDeque::new(alloc),
-            callers: BTreeMap::new(alloc),
+            parts_gone: 0,
+            parts: VecDeque::new(alloc),
+            callers: Callers::new(alloc),
             nodes: Vec::new(alloc),
             ready: NO_SEATS,
             unserved: NO_SEATS,
             paused: NO_SEATS,
-            deadlines: BTreeSet::new(alloc),
+            first_rising: None,
+            last_rising: None,
+            other_deadlines: BTreeSet::new(alloc),
             first_due: None,
             last_due: None,
             call_count: 0,
@@ -182,7 +244,7 @@ impl Schedule {
 
     /// How many steps a walk over the due callers takes at most.
     pub(crate) fn most_callers(&self) -> usize {
-        self.callers.len().saturating_add(1)
+        self.callers.place_count().saturating_add(1)
     }
 
     /// Makes room for a node of this number.
@@ -202,18 +264,49 @@ impl Schedule {
     /// # Errors
     ///
     /// If memory runs out. Nothing changes then.
-    pub(crate) fn add_call(&mut self, record: CallRecord) -> Result<(), AllocError> {
-        let call = self.next_call();
-        let caller = record.caller;
-        let deadline = record.deadline;
-        self.deadlines.insert((deadline, call))?;
-        if let Err(error) = self.add_caller(caller, call) {
-            self.deadlines.remove(&(deadline, call));
-            return Err(error);
-        }
-        if self.calls.push_back(record).is_err() {
-            self.forget_call(caller, call, deadline);
+    pub(crate) fn add_call(&mut self, new: NewCall) -> Result<(), AllocError> {
+        let place = self.callers.place_for(new.caller)?;
+        if self.push_call(new, place).is_err() {
+            self.callers.forget_idle(place);
             return Err(AllocError);
+        }
+        Ok(())
+    }
+
+    /// Adds the next call of the caller at a place.
+    fn push_call(&mut self, new: NewCall, place: usize) -> Result<(), AllocError> {
+        let call = self.next_call();
+        let count = self.parts.len();
+        if self.push_parts(&new.targets).is_err() {
+            self.parts.truncate(count);
+            return Err(AllocError);
+        }
+        let record = CallRecord::new(
+            new,
+            place,
+            self.parts_gone.saturating_add(count as u64),
+            self.parts.len().saturating_sub(count),
+        );
+        if self.calls.push_back(record).is_err() {
+            self.parts.truncate(count);
+            return Err(AllocError);
+        }
+        if self.add_deadline(call).is_err() {
+            self.calls.pop_back();
+            self.parts.truncate(count);
+            return Err(AllocError);
+        }
+        Ok(())
+    }
+
+    /// Adds parts. If memory runs out, some of them may have been added.
+    fn push_parts(&mut self, targets: &Targets) -> Result<(), AllocError> {
+        let Some(first) = targets.first else {
+            return Ok(());
+        };
+        self.parts.push_back(PartRecord::new(first))?;
+        for target in &targets.others {
+            self.parts.push_back(PartRecord::new(*target))?;
         }
         Ok(())
     }
@@ -223,87 +316,64 @@ impl Schedule {
         self.first.saturating_add(self.calls.len() as u64)
     }
 
-    /// Adds a caller, if it has no call that is kept. This one is its first.
-    fn add_caller(&mut self, caller: u64, call: u64) -> Result<(), AllocError> {
-        let Some(record) = self.callers.get_mut(&caller) else {
-            self.callers.insert(caller, CallerRecord::new(call))?;
-            return Ok(());
-        };
-        if !record.has_calls {
-            record.has_calls = true;
-            record.first = call;
-            record.last = call;
-        }
-        Ok(())
-    }
-
-    /// Forgets what was added for a call that does not begin.
-    fn forget_call(&mut self, caller: u64, call: u64, deadline: u64) {
-        self.deadlines.remove(&(deadline, call));
-        if self.first_call(caller) == Some(call) {
-            self.forget_calls(caller);
-        }
-    }
-
-    /// Notes that no call of a caller is kept. If the caller is not due either, it is forgotten.
-    fn forget_calls(&mut self, caller: u64) {
-        let Some(record) = self.callers.get_mut(&caller) else {
-            return;
-        };
-        record.has_calls = false;
-        if !record.is_due {
-            self.callers.remove(&caller);
-        }
-    }
-
     /// Takes back the last call that was added, which does not begin.
     pub(crate) fn take_back(&mut self) {
-        let Some(record) = self.calls.pop_back() else {
-            return;
-        };
-        let call = self.next_call();
-        self.forget_call(record.caller, call, record.deadline);
-    }
-
-    /// Notes that the last call that was added has begun, with so many parts. They are to be asked in this step.
-    pub(crate) fn note_begun(&mut self, count: usize) {
         let Some(call) = self.next_call().checked_sub(1) else {
             return;
         };
+        self.drop_deadline(call);
+        let Some(record) = self.calls.pop_back() else {
+            return;
+        };
+        let count = self.parts.len().saturating_sub(record.part_count);
+        self.parts.truncate(count);
+        self.callers.forget_idle(record.place);
+    }
+
+    /// Notes that the last call that was added has begun. Its parts are to be asked in this step.
+    pub(crate) fn note_begun(&mut self) {
+        let Some(call) = self.next_call().checked_sub(1) else {
+            return;
+        };
+        let Some(record) = self.call(call) else {
+            return;
+        };
+        let (place, count, bytes) = (record.place, record.part_count, record.bytes);
         self.call_count = self.call_count.saturating_add(1);
-        self.byte_count = self.byte_count.saturating_add(self.bytes_of(call));
+        self.byte_count = self.byte_count.saturating_add(bytes);
         self.part_count = self.part_count.saturating_add(count);
-        self.note_last(call);
+        self.note_last(place, call);
         for part in 0..count {
             self.push_back(Seat { call, part }, Room::Ready);
         }
     }
 
     /// Notes that a call is the last one of its caller.
-    fn note_last(&mut self, call: u64) {
-        let Some(record) = self.call(call) else {
+    fn note_last(&mut self, place: usize, call: u64) {
+        let Some(caller) = self.callers.get_mut(place) else {
             return;
         };
-        let caller = record.caller;
-        let Some(before) = self.set_last(caller, call) else {
+        let before = caller.last;
+        caller.last = call;
+        if !caller.has_calls {
+            caller.has_calls = true;
+            caller.first = call;
             return;
-        };
+        }
         if let Some(record) = self.call_mut(before) {
             record.next_of_caller = Some(call);
         }
     }
 
-    /// Sets the last call of a caller. Returns the call that was its last, if it is another.
-    fn set_last(&mut self, caller: u64, call: u64) -> Option<u64> {
-        let Some(record) = self.callers.get_mut(&caller) else {
-            return None;
+    /// Whether a call is the only one of its caller that is kept, and has one part.
+    pub(crate) fn is_alone(&self, call: u64) -> bool {
+        let Some(record) = self.call(call) else {
+            return false;
         };
-        let before = record.last;
-        record.last = call;
-        if before == call {
-            return None;
-        }
-        Some(before)
+        let Some(caller) = self.callers.get(record.place) else {
+            return false;
+        };
+        record.part_count == 1 && !record.has_left && caller.first == call && caller.last == call
     }
 
     /// The call of this number, if it is kept.
@@ -317,33 +387,22 @@ impl Schedule {
         self.calls.get_mut(index as usize)
     }
 
-    /// How many bytes the request of a call has.
-    fn bytes_of(&self, call: u64) -> usize {
-        match self.call(call) {
-            Some(record) => record.bytes,
-            None => 0,
+    /// Where a part stands among those of all calls, if its call is kept.
+    fn part_index(&self, seat: Seat) -> Option<usize> {
+        let record = self.call(seat.call)?;
+        if seat.part >= record.part_count {
+            return None;
         }
+        let before = record.parts_before.checked_sub(self.parts_gone)?;
+        (before as usize).checked_add(seat.part)
     }
 
     fn part(&self, seat: Seat) -> Option<&PartRecord> {
-        self.call(seat.call)?.parts.get(seat.part)
+        self.parts.get(self.part_index(seat)?)
     }
 
     fn part_mut(&mut self, seat: Seat) -> Option<&mut PartRecord> {
-        self.call_mut(seat.call)?.parts.get_mut(seat.part)
-    }
-}
-
-impl CallerRecord {
-    /// A caller whose first call has this number.
-    fn new(call: u64) -> CallerRecord {
-        CallerRecord {
-            barred: NO_SEATS,
-            has_calls: true,
-            first: call,
-            last: call,
-            is_due: false,
-            next_due: None,
-        }
+        let index = self.part_index(seat)?;
+        self.parts.get_mut(index)
     }
 }

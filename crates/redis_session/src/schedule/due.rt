@@ -1,23 +1,28 @@
 //! Which calls are due: those whose time is over, and those whose reply may be next.
 
-use super::{CallRecord, PartRecord, ReplyRule, Schedule};
+use super::{CallRecord, DeadlineRoom, NewCall, ReplyRule, Schedule};
 
 impl CallRecord {
     /// A call that has just come.
     pub(crate) fn new(
-        caller: u64,
-        rule: ReplyRule,
-        deadline: u64,
-        bytes: usize,
-        parts: Vec<PartRecord>,
+        new: NewCall,
+        place: usize,
+        parts_before: u64,
+        part_count: usize,
     ) -> CallRecord {
         CallRecord {
-            caller,
-            rule,
-            deadline,
+            caller: new.caller,
+            place,
+            rule: new.rule,
+            deadline: new.deadline,
+            deadline_room: DeadlineRoom::Nowhere,
+            before: None,
+            after: None,
             is_late: false,
-            bytes,
-            parts,
+            has_left: false,
+            bytes: new.bytes,
+            parts_before,
+            part_count,
             next_of_caller: None,
         }
     }
@@ -39,19 +44,11 @@ impl CallRecord {
 
     /// How many parts it has.
     pub(crate) fn part_count(&self) -> usize {
-        self.parts.len()
+        self.part_count
     }
 }
 
 impl Schedule {
-    /// The first deadline, with the call.
-    pub(crate) fn first_deadline(&self) -> Option<(u64, u64)> {
-        match self.deadlines.first() {
-            Some(first) => Some(*first),
-            None => None,
-        }
-    }
-
     /// Whether the time of a call is over.
     pub(crate) fn is_late(&self, call: u64) -> bool {
         match self.call(call) {
@@ -68,72 +65,63 @@ impl Schedule {
         }
     }
 
-    /// Forgets the deadline of a call that is owed no reply any more, or is late.
-    pub(crate) fn drop_deadline(&mut self, call: u64) {
-        let Some(record) = self.call(call) else {
-            return;
-        };
-        let deadline = record.deadline;
-        self.deadlines.remove(&(deadline, call));
+    /// The place of the caller of a call, if the call did not leave.
+    pub(crate) fn place_of(&self, call: u64) -> Option<usize> {
+        let record = self.call(call)?;
+        if record.has_left { None } else { Some(record.place) }
     }
 
-    /// Notes that the next reply of a caller may be there.
-    pub(crate) fn note_due(&mut self, caller: u64) {
-        let Some(record) = self.callers.get_mut(&caller) else {
+    /// Notes that the next reply of the caller at a place may be there.
+    pub(crate) fn note_due(&mut self, place: usize) {
+        let Some(record) = self.callers.get_mut(place) else {
             return;
         };
         if record.is_due {
             return;
         }
         record.is_due = true;
-        record.next_due = None;
+        record.next = None;
         match self.last_due {
-            Some(last) => self.set_next_due(last, caller),
-            None => self.first_due = Some(caller),
+            Some(last) => self.set_next_due(last, place),
+            None => self.first_due = Some(place),
         }
-        self.last_due = Some(caller);
+        self.last_due = Some(place);
     }
 
-    fn set_next_due(&mut self, caller: u64, next: u64) {
-        if let Some(record) = self.callers.get_mut(&caller) {
-            record.next_due = Some(next);
+    fn set_next_due(&mut self, place: usize, next: usize) {
+        if let Some(record) = self.callers.get_mut(place) {
+            record.next = Some(next);
         }
     }
 
     /// The first caller whose next reply may be there.
     pub(crate) fn first_due(&self) -> Option<u64> {
-        self.first_due
+        Some(self.callers.get(self.first_due?)?.number)
     }
 
-    /// Notes that the first due caller has no reply to get now.
+    /// Notes that the first due caller has no reply to get now. If no call of it is kept, it is forgotten.
     pub(crate) fn drop_due(&mut self) {
-        let Some(caller) = self.first_due else {
+        let Some(place) = self.first_due else {
             return;
         };
-        let next = self.unmark_due(caller);
+        let next = self.unmark_due(place);
         self.first_due = next;
         if next.is_none() {
             self.last_due = None;
         }
+        self.callers.forget_idle(place);
     }
 
-    /// Unmarks a due caller. Returns the next one in the list. If no call of the caller is kept, the caller is
-    /// forgotten.
-    fn unmark_due(&mut self, caller: u64) -> Option<u64> {
-        let Some(record) = self.callers.get_mut(&caller) else {
-            return None;
-        };
+    /// Unmarks a due caller. Returns the next one in the list.
+    fn unmark_due(&mut self, place: usize) -> Option<usize> {
+        let record = self.callers.get_mut(place)?;
         record.is_due = false;
-        let next = record.next_due;
-        if !record.has_calls {
-            self.callers.remove(&caller);
-        }
-        next
+        record.next
     }
 
-    /// The first call of a caller that is kept.
-    pub(crate) fn first_call(&self, caller: u64) -> Option<u64> {
-        let record = self.callers.get(&caller)?;
+    /// The first call that is kept of the caller at a place.
+    pub(crate) fn first_call(&self, place: usize) -> Option<u64> {
+        let record = self.callers.get(place)?;
         if record.has_calls {
             Some(record.first)
         } else {
@@ -141,37 +129,57 @@ impl Schedule {
         }
     }
 
-    /// Notes that the first call of a caller left. Its parts are in no list.
-    pub(crate) fn note_left(&mut self, caller: u64) {
-        let Some(call) = self.first_call(caller) else {
+    /// Notes that the first call left of the caller at a place. Its parts are in no list.
+    pub(crate) fn note_left(&mut self, place: usize) {
+        let Some(call) = self.first_call(place) else {
             return;
         };
         let Some(record) = self.call_mut(call) else {
             return;
         };
-        let count = record.parts.len();
+        record.has_left = true;
+        let count = record.part_count;
         let bytes = record.bytes;
         let next = record.next_of_caller;
-        record.parts.clear();
         self.call_count = self.call_count.saturating_sub(1);
         self.byte_count = self.byte_count.saturating_sub(bytes);
         self.part_count = self.part_count.saturating_sub(count);
         match next {
-            Some(next) => self.set_first_call(caller, next),
-            None => self.forget_calls(caller),
+            Some(next) => self.set_first_call(place, next),
+            None => self.forget_calls(place),
         }
     }
 
-    fn set_first_call(&mut self, caller: u64, call: u64) {
-        if let Some(record) = self.callers.get_mut(&caller) {
+    fn set_first_call(&mut self, place: usize, call: u64) {
+        if let Some(record) = self.callers.get_mut(place) {
             record.first = call;
         }
     }
 
+    /// Notes that no call is kept of the caller at a place. It is forgotten unless it is among the due ones, of which
+    /// it may be the first.
+    fn forget_calls(&mut self, place: usize) {
+        let Some(record) = self.callers.get_mut(place) else {
+            return;
+        };
+        record.has_calls = false;
+        if self.first_due == Some(place) {
+            self.drop_due();
+            return;
+        }
+        self.callers.forget_idle(place);
+    }
+
     /// Forgets the place of the first call.
     pub(crate) fn trim(&mut self) {
-        if self.calls.pop_front().is_some() {
-            self.first = self.first.saturating_add(1);
+        let Some(record) = self.calls.pop_front() else {
+            return;
+        };
+        self.first = self.first.saturating_add(1);
+        for _ in 0..record.part_count {
+            if self.parts.pop_front().is_some() {
+                self.parts_gone = self.parts_gone.saturating_add(1);
+            }
         }
     }
 }

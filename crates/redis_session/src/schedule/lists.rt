@@ -188,9 +188,9 @@ impl Schedule {
         }
     }
 
-    /// The first part of a caller that waits for earlier calls.
-    pub(crate) fn first_barred(&self, caller: u64) -> Option<Seat> {
-        self.callers.get(&caller)?.barred.first
+    /// The first part that waits for earlier calls of the caller at a place.
+    pub(crate) fn first_barred(&self, place: usize) -> Option<Seat> {
+        self.callers.get(place)?.barred.first
     }
 
     /// The list of a room. For [`Room::Barred`] it is the one of the caller of this part.
@@ -209,7 +209,7 @@ impl Schedule {
         let Some(call) = self.call(seat.call) else {
             return NO_SEATS;
         };
-        match self.callers.get(&call.caller) {
+        match self.callers.get(call.place) {
             Some(caller) => caller.barred,
             None => NO_SEATS,
         }
@@ -234,8 +234,8 @@ impl Schedule {
         let Some(call) = self.call(seat.call) else {
             return;
         };
-        let number = call.caller;
-        if let Some(caller) = self.callers.get_mut(&number) {
+        let place = call.place;
+        if let Some(caller) = self.callers.get_mut(place) {
             caller.barred = list;
         }
     }

@@ -7,7 +7,7 @@ ghost use Rattle.redis_session.specs.Begins.{CanBegin, IsNewPart, has_slot};
 use crate::nodes::NodeLink;
 use crate::plan::{CallParts, CallPlan, SlotPart};
 use crate::refusal::CallRefusal;
-use crate::schedule::{CallRecord, PartRecord, ReplyRule, Room, Target};
+use crate::schedule::{NewCall, ReplyRule, Room, Target, Targets};
 use crate::session::{Session, number_of};
 use cluster_map::NodeAddress;
 use redis_routing::{Names, NodeGroup};
@@ -23,7 +23,7 @@ const CLUSTER_SLOTS: &[u8] = b"*2\r\n$7\r\nCLUSTER\r\n$5\r\nSLOTS\r\n";
 struct Errand {
     rule: ReplyRule,
     parts: Vec<Part>,
-    records: Vec<PartRecord>,
+    targets: Targets,
 }
 
 impl Session {
@@ -51,12 +51,16 @@ impl Session {
             return Err(CallRefusal::Limit);
         }
         let errand = self.errand(alloc, request)?;
-        let count = errand.parts.len();
-        let record = CallRecord::new(caller, errand.rule, deadline, request.len(), errand.records);
-        self.schedule.add_call(record)?;
+        self.schedule.add_call(NewCall {
+            caller,
+            rule: errand.rule,
+            deadline,
+            bytes: request.len(),
+            targets: errand.targets,
+        })?;
         match self.machine.begin(alloc, caller, errand.parts) {
             Ok(call) => {
-                self.schedule.note_begun(count);
+                self.schedule.note_begun();
                 Ok(call)
             }
             Err(_) => {
@@ -281,6 +285,9 @@ impl Session {
     pub(crate) fn release_next(&mut self, seat: Seat)
         ensures { self.new ≡ self.old }
     {
+        if self.schedule.is_alone(seat.call) {
+            return;
+        }
         let Some(caller) = self.caller_of(seat.call) else {
             return;
         };
@@ -295,12 +302,12 @@ impl Session {
         }
     }
 
-    /// Has the parts of a caller asked in this step that wait for earlier calls no more.
-    pub(crate) fn release_barred(&mut self, caller: u64)
+    /// Has the parts asked in this step that wait for earlier calls no more, of the caller at a place.
+    pub(crate) fn release_barred(&mut self, place: usize)
         ensures { self.new ≡ self.old }
     {
         for _ in 0..self.schedule.most_steps() {
-            let Some(seat) = self.schedule.first_barred(caller) else {
+            let Some(seat) = self.schedule.first_barred(place) else {
                 return;
             };
             if self.machine.is_held_back(seat.call, seat.part) {
@@ -348,10 +355,17 @@ impl Session {
     fn node_of_slot(&mut self, slot: u16) -> Result<Option<usize>, AllocError>
         ensures { self.new ≡ self.old }
     {
+        if let Some(node) = self.nodes.node_of_slot(slot) {
+            return Ok(Some(node));
+        }
         let Some(address) = self.table.node(slot) else {
             return Ok(None);
         };
-        number_of(&mut self.nodes, &mut self.schedule, address)
+        let number = number_of(&mut self.nodes, &mut self.schedule, address)?;
+        if let Some(node) = number {
+            self.nodes.note_slot(slot, node);
+        }
+        Ok(number)
     }
 
     /// Asks for the map on a link that is ready, if the map is wanted.
@@ -415,7 +429,7 @@ impl Errand {
         Errand {
             rule,
             parts: Vec::new(alloc),
-            records: Vec::new(alloc),
+            targets: Targets::new(alloc),
         }
     }
 
@@ -424,7 +438,7 @@ impl Errand {
         ensures { OnOk result (self.new.parts.items ≡ self.old.parts.items ++ part ∷ []) }
     {
         self.parts.push(part)?;
-        self.records.push(PartRecord::new(target))?;
+        self.targets.push(target)?;
         Ok(())
     }
 }

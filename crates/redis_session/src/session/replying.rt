@@ -97,8 +97,8 @@ impl Session {
             return;
         };
         self.reply = LastReply::Nothing;
-        if let Some(caller) = self.caller_of(call) {
-            self.leave_calls(alloc, caller);
+        if let Some(place) = self.schedule.place_of(call) {
+            self.leave_calls(alloc, place);
         }
     }
 

@@ -111,6 +111,7 @@ impl Session {
         };
         match filled {
             Ok(true) => {
+                self.nodes.forget_slots();
                 self.schedule.release_unserved();
                 self.schedule.release_nodes();
                 self.note_nodes(alloc)
@@ -148,6 +149,17 @@ impl Session {
         ensures { Leads self.old self.new }
     {
         self.nodes.note_reply(link);
+        if !self.keeps_error(seat) {
+            self.note_done(alloc, seat);
+            return Ok(());
+        }
+        self.note_error(alloc, link, seat)
+    }
+
+    /// Notes that a part keeps an error.
+    fn note_error(&mut self, alloc: Global, link: usize, seat: Seat) -> Result<(), AllocError>
+        ensures { Leads self.old self.new }
+    {
         if self.keeps_change(seat) {
             self.want_map();
         }
@@ -163,6 +175,18 @@ impl Session {
             self.learn(seat, told)?;
         }
         Ok(())
+    }
+
+    /// Whether a part keeps an error of its node.
+    fn keeps_error(&self, seat: Seat) -> bool {
+        match self.machine.part(seat.call, seat.part) {
+            Some(part) => match part.phase() {
+                Phase::Answered(reply) => reply.starts_with(b"-"),
+                Phase::Refused(_) => true,
+                _ => false,
+            },
+            None => false,
+        }
     }
 
     /// Whether the reply that a part keeps says that the map changed.
@@ -266,6 +290,7 @@ impl Session {
                     return Ok(None);
                 }
                 self.table.note_moved(slot, address)?;
+                self.nodes.forget_slot(slot);
                 Ok(Some(Target::Slot(slot)))
             }
         }
@@ -288,14 +313,34 @@ impl Session {
     pub(crate) fn note_done(&mut self, alloc: Global, seat: Seat)
         ensures { Leads self.old self.new }
     {
+        let Some(place) = self.schedule.place_of(seat.call) else {
+            return;
+        };
+        self.release_behind(seat);
+        self.note_settled(alloc, place);
+    }
+
+    /// Has what waited for a part asked in this step that is done.
+    fn release_behind(&mut self, seat: Seat)
+        ensures { Leads self.old self.new }
+    {
+        if self.schedule.is_alone(seat.call) {
+            return;
+        }
         let Some(caller) = self.caller_of(seat.call) else {
             return;
         };
         self.end_overtaken(caller, seat);
         self.release_next(seat);
-        self.release_barred(caller);
-        self.schedule.note_due(caller);
-        self.leave_calls(alloc, caller);
+    }
+
+    /// Notes that parts are done of the caller at a place.
+    fn note_settled(&mut self, alloc: Global, place: usize)
+        ensures { Leads self.old self.new }
+    {
+        self.release_barred(place);
+        self.schedule.note_due(place);
+        self.leave_calls(alloc, place);
     }
 
     /// Ends the parts of a caller that a part overtook which is done.
@@ -501,21 +546,22 @@ impl Session {
     pub(crate) fn note_over(&mut self, alloc: Global, call: u64)
         ensures { Leads self.old self.new }
     {
-        let Some(record) = self.schedule.call(call) else {
+        let (Some(place), Some(record)) = (self.schedule.place_of(call), self.schedule.call(call))
+        else {
             return;
         };
-        let count = record.part_count();
-        for part in 0..count {
-            self.note_done(alloc, Seat { call, part });
+        for part in 0..record.part_count() {
+            self.release_behind(Seat { call, part });
         }
+        self.note_settled(alloc, place);
     }
 
-    /// Forgets the first calls of a caller that are owed no reply and whose parts are done.
-    pub(crate) fn leave_calls(&mut self, alloc: Global, caller: u64)
+    /// Forgets the first calls that are owed no reply and whose parts are done, of the caller at a place.
+    pub(crate) fn leave_calls(&mut self, alloc: Global, place: usize)
         ensures { Leads self.old self.new }
     {
         for _ in 0..self.schedule.most_calls() {
-            let Some(call) = self.schedule.first_call(caller) else {
+            let Some(call) = self.schedule.first_call(place) else {
                 return;
             };
             if self.reply.is_of(call) {
@@ -524,7 +570,7 @@ impl Session {
             if !self.machine.leave(alloc, call) {
                 return;
             }
-            self.schedule.note_left(caller);
+            self.schedule.note_left(place);
             self.trim();
         }
     }
