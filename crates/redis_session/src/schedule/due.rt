@@ -68,7 +68,11 @@ impl Schedule {
     /// The place of the caller of a call, if the call did not leave.
     pub(crate) fn place_of(&self, call: u64) -> Option<usize> {
         let record = self.call(call)?;
-        if record.has_left { None } else { Some(record.place) }
+        if record.has_left {
+            None
+        } else {
+            Some(record.place)
+        }
     }
 
     /// Notes that the next reply of the caller at a place may be there.
