@@ -16,9 +16,8 @@ pub mod Puts
 mod Examples
 pub mod PlaceLists
 pub mod Places
-pub mod SummaryTrees
-pub mod LanePlaces
-pub mod LaneKeeping
+pub mod Ascending
+pub mod LaneStates
 pub mod LaneMaps
 pub mod OrderTies
 pub mod OrderAsks

@@ -13,9 +13,9 @@ use Rattle.session_core.specs.declared.ordered_part.Status.{Status}
 use Rattle.session_core.specs.declared.ordered_part.Status.TheVariants.{Waits, Asked}
 use Rattle.session_core.specs.Part.{have_slot, have_order}
 use Rattle.session_core.specs.Order.{Order, no_order, ordered_at, is_done, IsTrimmed, is_effective, LetsBy, MayAskAmong, MayAsk, IsOf, Offers, NamesWaiting, IsOnItsWay, with_status, trimmed, trimmed_from}
-use Rattle.session_core.specs.Inner.Tied.{IsSorted, IsBar, IsFirstOver, IsAlone, IsGateKept}
+use Rattle.session_core.specs.Inner.Tied.{IsSorted, IsBar, IsFirstBar, IsFirstOver, IsAlone, IsGateKept}
 use Rattle.session_core.proofs.Places.{at_from, at_within, at_there, none_at, dropped_other, changed_same, changed_other, length-changed}
-use Rattle.session_core.proofs.OrderTies.{slot_of_both}
+use Rattle.session_core.proofs.OrderTies.{bool_cases, slot_of_both}
 use Rattle.session_core.proofs.OrderAsks.{call_le}
 
 -- ---- orders
@@ -57,32 +57,22 @@ whole_has_no_slot a b whole e =
 done_by : (link : ℕ) (p q : OrderedPart) → (p.order ≡ Whole) ⊎ (q.order ≡ Whole) → LetsBy link p q → is_done p.status ≡ true
 done_by link p q whole lets = elim lets [ inl done ↦ done | inr on ↦ absurd (whole_has_no_slot p.order q.order whole on.0) ]
 
-bool_cases : (b : Bool) → (b ≡ true) ⊎ (b ≡ false)
-bool_cases true = inl refl
-bool_cases false = inr refl
-
 not_both : (b : Bool) → b ≡ true → b ≡ false → ⊥
 not_both b t f = let q : true ≡ false = sym t ∙ f in cc
 
 -- ---- questions
 
 -- No bar is of an earlier call, if the first is not.
-pub no_bar : (order : Order) (barrier call : ℕ) → IsSorted order → IsGateKept order barrier
-    → ((bar : OrderedPart) → ordered_at barrier order ≡ Some bar → bar.seat.call < call → ⊥)
+no_bar : (order : Order) (first : OrderedPart) (call : ℕ) → IsSorted order → IsFirstBar first order → call ≤ first.seat.call
     → (place : ℕ) (p : OrderedPart) → ordered_at place order ≡ Some p → p.seat.call < call → IsBar place order → ⊥
-no_bar order barrier call s g free place p e lt bar = elim (cases_lt place barrier) [
-  | inl before ↦ g.passed place before bar
-  | inr after ↦
-      let w = at_within place order.first order.parts p e in
-      let first = g.bars (omega (arith, w.1, after)) in
-      let le = call_le order barrier place first.0 p s after first.1 e in
-      free first.0 first.1 (omega (arith, le, lt))
-]
+no_bar order first call s b free place p e lt bar =
+    let le = call_le order b.place place first p s (b.first place bar) b.there e in
+    omega (arith, le, lt, free)
 
-pub slot_may : (order : Order) (barrier slot place link : ℕ) → IsSorted order → IsGateKept order barrier → (m : MayAskAmong have_slot place link order) → m.it.order ≡ OfSlot slot
+pub slot_may : (order : Order) (slot place link : ℕ) → IsSorted order → IsGateKept order → (m : MayAskAmong have_slot place link order) → m.it.order ≡ OfSlot slot
     → ((at : ℕ) (p : OrderedPart) → ordered_at at order ≡ Some p → p.seat.call < m.it.seat.call → IsBar at order → ⊥)
     → MayAsk place link order
-slot_may order barrier slot place link s g m is free = record {
+slot_may order slot place link s g m is free = record {
   it = m.it;
   there = m.there;
   waits = m.waits;
@@ -155,12 +145,9 @@ none_earlier order call s free at p e lt =
 
 -- ---- steps
 
-pub gate_none : IsGateKept no_order 0
+pub gate_none : IsGateKept no_order
 gate_none = record {
   front = λ over. let n = none_at {X = OrderedPart} 0 0 [] refl in let q : ◌≡◌ {A = Option OrderedPart} None (Some over.0) = sym n ∙ over.1 in cc;
-  passed = λ place lt bar. absurd (omega (arith, lt));
-  bars = λ lt. absurd (omega (arith, lt));
-  within = omega arith;
   alone = λ at after p q ep eq lt whole took. let n = none_at {X = OrderedPart} at 0 [] refl in let z : ◌≡◌ {A = Option OrderedPart} None (Some p) = sym n ∙ ep in absurd (cc);
 }
 
@@ -205,40 +192,20 @@ alone_changed order place s p a e took stays at after x y ex ey lt whole effecti
 pub alone_part : (order new : Order) → IsAlone order → ((at : ℕ) (x : OrderedPart) → ordered_at at new ≡ Some x → ordered_at at order ≡ Some x) → IsAlone new
 alone_part order new a was at after p q ep eq lt whole took = a at after p q (was at p ep) (was after q eq) lt whole took
 
--- a bar after a status changed was one before, unless the part was done
-bar_was : (order : Order) (place : ℕ) (s : Status) (p : OrderedPart) → ordered_at place order ≡ Some p → (is_done s ≡ false → is_done p.status ≡ false) → (at : ℕ) → IsBar at (with_status place s order) → IsBar at order
-bar_was order place s p e undone at bar = elim (changed_cases order place s p e at bar.0 bar.1) [
-  | inl here ↦ (p, subst (λ (n : ℕ). ordered_at n order ≡ Some p) (sym here.0) e, ap (λ (z : OrderedPart). z.order) here.1 ∙ bar.2, undone (ap (λ (z : OrderedPart). is_done z.status) here.1 ∙ bar.3))
-  | inr here ↦ (bar.0, here.1, bar.2, bar.3)
-]
-
 -- a part that is not done gets a status that is not done
-pub gate_open : (order : Order) (barrier place : ℕ) (s : Status) (p : OrderedPart) → IsGateKept order barrier → ordered_at place order ≡ Some p → is_done p.status ≡ false → is_done s ≡ false
+gate_open : (order : Order) (place : ℕ) (s : Status) (p : OrderedPart) → IsGateKept order → ordered_at place order ≡ Some p → is_done p.status ≡ false → is_done s ≡ false
     → (is_effective s ≡ true → (at : ℕ) (x : OrderedPart) → ordered_at at order ≡ Some x → x.seat.call < p.seat.call → (x.order ≡ Whole) ⊎ (p.order ≡ Whole) → is_done x.status ≡ true)
-    → IsGateKept (with_status place s order) barrier
-gate_open order barrier place s p g e undone stays took =
-    let w = at_within place order.first order.parts p e in
-    let many = length-changed (λ (part : OrderedPart). record part { status = s }) (place - order.first) order.parts in
-    record {
-      front = λ over. elim (changed_cases order place s p e order.first over.0 over.1) [
-        | inl here ↦ not_both (is_done s) (ap (λ (z : OrderedPart). is_done z.status) here.1 ∙ over.2) stays
-        | inr here ↦ g.front (over.0, here.1, over.2)
-      ];
-      passed = λ at lt bar. g.passed at lt (bar_was order place s p e (λ _. undone) at bar);
-      bars = λ lt.
-          let bar = g.bars (omega (arith, lt, many)) in
-          elim (cases_eq barrier place) [
-            | inl same ↦
-                let is : bar.0 ≡ p = same_Some bar.0 p (sym bar.1 ∙ ap (λ n. ordered_at n order) same ∙ e) in
-                (record p { status = s }, ap (λ n. ordered_at n (with_status place s order)) same ∙ changed_same (λ (part : OrderedPart). record part { status = s }) place order.first order.parts p e, ap (λ (z : OrderedPart). z.order) (sym is) ∙ bar.2, stays)
-            | inr ne ↦ (bar.0, changed_other (λ (part : OrderedPart). record part { status = s }) place barrier order.first order.parts w.0 ne ∙ bar.1, bar.2, bar.3)
-          ];
-      within = omega (arith, g.within, many);
-      alone = alone_changed order place s p g.alone e took (λ done. absurd (not_both (is_done p.status) done undone));
-    }
+    → IsGateKept (with_status place s order)
+gate_open order place s p g e undone stays took = record {
+  front = λ over. elim (changed_cases order place s p e order.first over.0 over.1) [
+    | inl here ↦ not_both (is_done s) (ap (λ (z : OrderedPart). is_done z.status) here.1 ∙ over.2) stays
+    | inr here ↦ g.front (over.0, here.1, over.2)
+  ];
+  alone = alone_changed order place s p g.alone e took (λ done. absurd (not_both (is_done p.status) done undone));
+}
 
-pub gate_asked : (order : Order) (barrier place link : ℕ) → IsSorted order → IsGateKept order barrier → MayAsk place link order → IsGateKept (with_status place (Asked link) order) barrier
-gate_asked order barrier place link s g m = gate_open order barrier place (Asked link) m.it g m.there (ap is_done m.waits) refl (λ took at x e lt whole.
+pub gate_asked : (order : Order) (place link : ℕ) → IsSorted order → IsGateKept order → MayAsk place link order → IsGateKept (with_status place (Asked link) order)
+gate_asked order place link s g m = gate_open order place (Asked link) m.it g m.there (ap is_done m.waits) refl (λ took at x e lt whole.
     let free_x : x.order ≡ Free → ⊥ = λ f. s.no_free at x e f in
     let free_it : m.it.order ≡ Free → ⊥ = λ f. s.no_free place m.it m.there f in
     let related : have_order x.order m.it.order ≡ true = elim whole [
@@ -247,8 +214,8 @@ gate_asked order barrier place link s g m = gate_open order barrier place (Asked
     ] in
     done_by link x m.it whole (m.earlier at x e lt related))
 
-pub gate_refused : (order : Order) (barrier place : ℕ) → IsGateKept order barrier → IsOnItsWay place order → IsGateKept (with_status place Waits order) barrier
-gate_refused order barrier place g way = gate_open order barrier place Waits way.0 g way.2 (ap is_done way.3) refl (λ took. let q : false ≡ true = took in absurd (cc))
+pub gate_refused : (order : Order) (place : ℕ) → IsGateKept order → IsOnItsWay place order → IsGateKept (with_status place Waits order)
+gate_refused order place g way = gate_open order place Waits way.0 g way.2 (ap is_done way.3) refl (λ took. let q : false ≡ true = took in absurd (cc))
 
 -- ---- done parts at the front
 
@@ -267,18 +234,6 @@ trimmed_was first (p ∷ ps) at x e = trimmed_or_not (is_done p.status) first p 
 
 pub trimmed_at : (order : Order) (at : ℕ) (x : OrderedPart) → ordered_at at (trimmed order) ≡ Some x → ordered_at at order ≡ Some x
 trimmed_at order at x e = trimmed_was order.first order.parts at x e
-
-same_end : (b : Bool) (first : ℕ) (p : OrderedPart) (ps : List OrderedPart) (new : Order) → new.first + length new.parts ≡ first + 1 + length ps
-    → (if b then new else record { first = first; parts = p ∷ ps }).first + length (if b then new else record { first = first; parts = p ∷ ps }).parts ≡ first + suc (length ps)
-same_end true first p ps new h = omega (arith, h)
-same_end false first p ps new h = refl
-
-trimmed_end_from : (first : ℕ) (parts : List OrderedPart) → (trimmed_from first parts).first + length (trimmed_from first parts).parts ≡ first + length parts
-trimmed_end_from first [] = refl
-trimmed_end_from first (p ∷ ps) = same_end (is_done p.status) first p ps (trimmed_from (first + 1) ps) (trimmed_end_from (first + 1) ps)
-
-pub trimmed_end : (order : Order) → (trimmed order).first + length (trimmed order).parts ≡ order.first + length order.parts
-trimmed_end order = trimmed_end_from order.first order.parts
 
 -- one more part at the front is forgotten
 pub trimmed_one : (order : Order) → IsFirstOver order → trimmed (record { first = order.first + 1; parts = drop 1 order.parts }) ≡ trimmed order
@@ -306,30 +261,14 @@ trimmed_none order not = by order.first order.parts not
         ]
 
 -- a part is done now, and the done parts at the front are forgotten
-pub gate_done : (order : Order) (barrier place next : ℕ) (s : Status) (p : OrderedPart) → IsGateKept order barrier → ordered_at place order ≡ Some p → is_done s ≡ true → (is_effective s ≡ true → is_effective p.status ≡ true)
-    → (new : Order) → new ≡ trimmed (with_status place s order) → (IsFirstOver new → ⊥)
-    → ((at : ℕ) → barrier ≤ at → at < next → IsBar at new → ⊥) → (next < new.first + length new.parts → IsBar next new) → next ≤ new.first + length new.parts
-    → IsGateKept new next
-gate_done order barrier place next s p g e done was new is front passes bars within = record {
+pub gate_done : (order : Order) (place : ℕ) (s : Status) (p : OrderedPart) → IsGateKept order → ordered_at place order ≡ Some p → is_done s ≡ true → (is_effective s ≡ true → is_effective p.status ≡ true)
+    → (new : Order) → new ≡ trimmed (with_status place s order) → (IsFirstOver new → ⊥) → IsGateKept new
+gate_done order place s p g e done was new is front = record {
   front = front;
-  passed = λ at lt bar. elim (cases_lt at barrier) [
-    | inl before ↦
-        let there : ordered_at at (with_status place s order) ≡ Some bar.0 = trimmed_at (with_status place s order) at bar.0 (subst (λ (o : Order). ordered_at at o ≡ Some bar.0) is bar.1) in
-        g.passed at before (bar_was order place s p e (λ undone. absurd (not_both (is_done s) done undone)) at (bar.0, there, bar.2, bar.3))
-    | inr after ↦ passes at after lt bar
-  ];
-  bars = bars;
-  within = within;
   alone = alone_part (with_status place s order) new
       (alone_changed order place s p g.alone e (λ took at x ex lt whole. g.alone at place x p ex e lt whole (was took)) (λ _. done))
       (λ at x ex. trimmed_at (with_status place s order) at x (subst (λ (o : Order). ordered_at at o ≡ Some x) is ex));
 }
-
-pub done_within : (order : Order) (barrier place : ℕ) (s : Status) (new : Order) → IsGateKept order barrier → new ≡ trimmed (with_status place s order) → barrier ≤ new.first + length new.parts
-done_within order barrier place s new g is =
-    let many = length-changed (λ (part : OrderedPart). record part { status = s }) (place - order.first) order.parts in
-    let end : new.first + length new.parts ≡ order.first + length (with_status place s order).parts = ap (λ (o : Order). o.first + length o.parts) is ∙ trimmed_end (with_status place s order) in
-    omega (arith, end, many, g.within)
 
 pub first_open : (order : Order) → (IsFirstOver order → ⊥) → IsTrimmed order
 first_open order front = λ p e. elim (bool_cases (is_done p.status)) [ inl done ↦ absurd (front (p, e, done)) | inr undone ↦ undone ]
@@ -345,22 +284,13 @@ less_by a b e = grind (arith, nat_tests)
 not_less_by : (a b : ℕ) → nat_lt a b ≡ false → b ≤ a
 not_less_by a b e = grind (arith, nat_tests)
 
-pub barred_by : (order : Order) (barrier call : ℕ) (bar : OrderedPart) → IsGateKept order barrier → Some bar ≡ ordered_at barrier order → nat_lt bar.seat.call call ≡ true
+pub barred_by : (order : Order) (call : ℕ) (bar : OrderedPart) → IsFirstBar bar order → nat_lt bar.seat.call call ≡ true
     → (place : ℕ) × (p : OrderedPart) × (ordered_at place order ≡ Some p) × (p.seat.call < call) × IsBar place order
-barred_by order barrier call bar g e lt =
-    let w = at_within barrier order.first order.parts bar (sym e) in
-    (barrier, bar, sym e, less_by bar.seat.call call lt, g.bars w.1)
+barred_by order call bar b lt = (b.place, bar, b.there, less_by bar.seat.call call lt, (bar, b.there, b.whole, b.not_done))
 
-pub unbarred_by : (order : Order) (barrier call : ℕ) (bar : OrderedPart) → IsSorted order → IsGateKept order barrier → Some bar ≡ ordered_at barrier order → nat_lt bar.seat.call call ≡ false
+pub unbarred_by : (order : Order) (call : ℕ) (bar : OrderedPart) → IsSorted order → IsFirstBar bar order → nat_lt bar.seat.call call ≡ false
     → (place : ℕ) (p : OrderedPart) → ordered_at place order ≡ Some p → p.seat.call < call → IsBar place order → ⊥
-unbarred_by order barrier call bar s g e not = no_bar order barrier call s g (λ other there lt.
-    let is : other ≡ bar = same_Some other bar (sym there ∙ sym e) in
-    let le = not_less_by bar.seat.call call not in
-    omega (arith, ap (λ (p : OrderedPart). p.seat.call) is, le, lt))
-
-pub unbarred_none : (order : Order) (barrier call : ℕ) → IsSorted order → IsGateKept order barrier → ◌≡◌ {A = Option OrderedPart} None (ordered_at barrier order)
-    → (place : ℕ) (p : OrderedPart) → ordered_at place order ≡ Some p → p.seat.call < call → IsBar place order → ⊥
-unbarred_none order barrier call s g e = no_bar order barrier call s g (λ other there lt. let q : ◌≡◌ {A = Option OrderedPart} None (Some other) = e ∙ there in cc)
+unbarred_by order call bar s b not = no_bar order bar call s b (not_less_by bar.seat.call call not)
 
 named_call : (order : Order) (place : ℕ) (seat : Seat) (it : OrderedPart) → NamesWaiting place seat order → ordered_at place order ≡ Some it → it.seat ≡ seat
 named_call order place seat it names e = ap (λ (p : OrderedPart). p.seat) (same_Some it names.0 (sym e ∙ names.1)) ∙ names.2
@@ -374,15 +304,15 @@ barred_none order slot a s asks names bar place link m of =
     let seat = named_call order place a.seat m.it (subst (λ (n : ℕ). NamesWaiting n a.seat order) o.0 names) m.there in
     not_barred order place link bar.0 bar.1 s m bar.2 (subst (λ (x : Seat). bar.1.seat.call < x.call) (sym seat) bar.3) bar.4
 
-pub free_may : (order : Order) (barrier slot : ℕ) (a : Askable) → IsSorted order → IsGateKept order barrier
+pub free_may : (order : Order) (slot : ℕ) (a : Askable) → IsSorted order → IsGateKept order
     → ((place link : ℕ) → Offers (Some a) place link → MayAskAmong have_slot place link order × IsOf slot place order) → NamesWaiting a.place a.seat order
     → ((place : ℕ) (p : OrderedPart) → ordered_at place order ≡ Some p → p.seat.call < a.seat.call → IsBar place order → ⊥)
     → (place link : ℕ) → Offers (Some a) place link → MayAsk place link order × IsOf slot place order
-free_may order barrier slot a s g may names free place link offers =
+free_may order slot a s g may names free place link offers =
     let m = may place link offers in
     let is : m.0.it.order ≡ OfSlot slot = ap (λ (p : OrderedPart). p.order) (same_Some m.0.it m.1.0 (sym m.0.there ∙ m.1.1)) ∙ m.1.2 in
     let seat = named_call order place a.seat m.0.it (subst (λ (n : ℕ). NamesWaiting n a.seat order) offers.0 names) m.0.there in
-    (slot_may order barrier slot place link s g m.0 is (λ at p e lt bar. free at p e (subst (λ (x : Seat). p.seat.call < x.call) seat lt) bar), m.1)
+    (slot_may order slot place link s g m.0 is (λ at p e lt bar. free at p e (subst (λ (x : Seat). p.seat.call < x.call) seat lt) bar), m.1)
 
 pub only_offers : (askable result : Option Askable) (place link : ℕ) → IfSome result (λ part. (askable ≡ Some part) × (part.place ≡ place))
     → IfNone result ((part : Askable) → askable ≡ Some part → part.place ≡ place → ⊥) → Offers askable place link → Offers result place link

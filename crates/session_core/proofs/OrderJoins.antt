@@ -152,11 +152,8 @@ joined_undone call orders order i le =
 
 -- ---- the gate after a call joined
 
-pub gate_joined : (call : ℕ) (orders : List PartOrder) (order : Order) (barrier next : ℕ) → MayJoin call orders order → IsGateKept order barrier
-    → (new : Order) → new ≡ joined call orders order
-    → ((at : ℕ) → barrier ≤ at → at < next → IsBar at new → ⊥) → (next < new.first + length new.parts → IsBar next new) → next ≤ new.first + length new.parts
-    → IsGateKept new next
-gate_joined call orders order barrier next may g new is passes bars within = record {
+pub gate_joined : (call : ℕ) (orders : List PartOrder) (order : Order) → MayJoin call orders order → IsGateKept order → (new : Order) → new ≡ joined call orders order → IsGateKept new
+gate_joined call orders order may g new is = record {
   front = λ over.
       let first : new.first ≡ order.first = ap (λ (o : Order). o.first) is in
       let e : ordered_at order.first (joined call orders order) ≡ Some over.0 = subst (λ (o : Order). ordered_at order.first o ≡ Some over.0) is (ap (λ n. ordered_at n new) (sym first) ∙ over.1) in
@@ -164,15 +161,6 @@ gate_joined call orders order barrier next may g new is passes bars within = rec
         | inl old ↦ g.front (over.0, old, over.2)
         | inr fresh ↦ let q : true ≡ false = sym over.2 ∙ ap is_done fresh.2 in cc
       ];
-  passed = λ at lt bar. elim (cases_lt at barrier) [
-    | inl before ↦ elim (joined_cases call orders order at bar.0 (subst (λ (o : Order). ordered_at at o ≡ Some bar.0) is bar.1)) [
-      | inl old ↦ g.passed at before (bar.0, old, bar.2, bar.3)
-      | inr fresh ↦ omega (arith, fresh.0, before, g.within)
-    ]
-    | inr after ↦ passes at after lt bar
-  ];
-  bars = bars;
-  within = within;
   alone = λ at after p q ep eq lt whole took. elim (joined_cases call orders order after q (subst (λ (o : Order). ordered_at after o ≡ Some q) is eq)) [
     | inl oldq ↦ elim (joined_cases call orders order at p (subst (λ (o : Order). ordered_at at o ≡ Some p) is ep)) [
       | inl oldp ↦ g.alone at after p q oldp oldq lt whole took

@@ -1,11 +1,7 @@
--- The order of a caller and the lanes of its slots stay tied, whatever step they take together.
-use Rattle.std.proofs.Common.{inl, inr, true, ◌≡◌, ◌≢◌, ◌<◌, ◌≤◌, ◌+◌, ◌-◌, ◌^◌, ◌++◌, ◌⊎◌, ℕ, List, [], ◌∷◌, length, length-append, length-drop, get_or, min, take, drop, Option, None, Some, refl, sym, ap, ◌∙◌, subst, arith}
-use Rattle.std.specs.Option.{option_map}
+-- The order of a caller, the lanes of its slots and its bars stay tied, whatever step they take together.
+use Rattle.std.proofs.Common.{inl, inr, true, false, Bool, ◌≡◌, ◌≢◌, ◌<◌, ◌≤◌, ◌+◌, ◌-◌, ◌^◌, ◌++◌, ◌⊎◌, ℕ, List, [], ◌∷◌, length, length-append, length-drop, take, drop, Option, None, Some, refl, sym, ap, ◌∙◌, subst, arith}
 use Rattle.std.specs.BTreeMap.{BTreeMap}
-use Rattle.std.proofs.Math.Seq.{get_or-append_seam}
-use Rattle.std.proofs.Math.ListN.{get_or-append}
-use Rattle.std.proofs.lemmas.List.{get_or-take, length-take}
-use Rattle.std.proofs.lemmas.Grind.{get_or_after_one}
+use Rattle.std.proofs.lemmas.List.{length-take}
 use Rattle.std.proofs.lemmas.Option.{same_Some}
 use Rattle.std.proofs.lemmas.Bool.{cases_lt, cases_eq}
 use Rattle.std.proofs.lemmas.Bool.Decides.{nat_tests}
@@ -14,14 +10,19 @@ use Rattle.session_core.specs.declared.part.PartOrder.TheVariants.{OfSlot, Whole
 use Rattle.session_core.specs.declared.ordered_part.Seat.{Seat}
 use Rattle.session_core.specs.declared.ordered_part.OrderedPart.{OrderedPart}
 use Rattle.session_core.specs.declared.ordered_part.Status.{Status}
-use Rattle.session_core.specs.declared.ordered_part.Status.TheVariants.{Waits}
-use Rattle.session_core.specs.declared.lane.LanePart.{LanePart}
+use Rattle.session_core.specs.declared.ordered_part.Status.TheVariants.{Waits, Asked, Settled, Unsent}
 use Rattle.session_core.specs.Inner.Lane as lane
+use Rattle.session_core.specs.Inner.Lane.{In, Ascends, IsOpen, IsLaneOf}
 use Rattle.session_core.specs.Part.{have_slot}
-use Rattle.session_core.specs.Order.{Order, ordered_at, with_status}
-use Rattle.session_core.specs.Inner.Tied.{lane_of, lane_end, in_lane, Stepped, IsSorted, IsTied, spot, MayFollow, pushed, without_first, without_last}
-use Rattle.session_core.proofs.Places.{at_below, at_within, at_there, pushed_last, pushed_other, dropped_other, left_other, left_last, length-changed, changed_same, changed_other}
-use Rattle.session_core.proofs.LaneMaps.{in_lane_is}
+use Rattle.session_core.specs.Order.{Order, ordered_at, is_done, is_effective, MayAskAmong, with_status}
+use Rattle.session_core.specs.Inner.Tied.{lane_of, AreSame, IsEmpty, Stepped, IsSorted, IsBar, IsTied, MayChange, MayFollow, status_in, seen, statuses, entered, left, pushed, without_first, without_last}
+use Rattle.session_core.proofs.Ascending.{same_place, in_pushed, pushed_in, in_without, without_in, ascends_pushed, ascends_without}
+use Rattle.session_core.proofs.LaneStates.{MayMove, may_become, lane_changed, lane_gone, lane_joined, lane_same, lane_freed}
+use Rattle.session_core.proofs.Places.{at_below, at_past, at_within, pushed_last, pushed_other, dropped_other, left_other, left_last, length-changed, changed_same, changed_other}
+
+pub bool_cases : (b : Bool) → (b ≡ true) ⊎ (b ≡ false)
+bool_cases true = inl refl
+bool_cases false = inr refl
 
 -- ---- orders of slots
 
@@ -61,287 +62,301 @@ sorted_kept old new s was fits = record {
   fits = fits;
 }
 
--- ---- a change at one place
+-- ---- the statuses of a slot
 
--- The part at the place `at0` of the order, and at `a0` of its lane, has this status after the change. Nothing
--- else changed.
-record Update (order new : Order) (spots after : List ℕ) (lanes changed : BTreeMap ℕ lane.Lane) (at0 a0 : ℕ) (order0 : PartOrder) (status : Option Status) : Type 0 where
-  flat_here : (p : OrderedPart) → ordered_at at0 new ≡ Some p → (p.order ≡ order0) × (status ≡ Some p.status) × (spot new after at0 ≡ a0)
-  flat_there : (s : Status) → status ≡ Some s → (p : OrderedPart) × (ordered_at at0 new ≡ Some p)
-  flat_other : (q : ℕ) → q ≢ at0 → ordered_at q new ≡ ordered_at q order
-  spot_other : (q : ℕ) (p : OrderedPart) → q ≢ at0 → ordered_at q order ≡ Some p → spot new after q ≡ spot order spots q
-  old_spot : (p : OrderedPart) → ordered_at at0 order ≡ Some p → (p.order ≡ order0) × (spot order spots at0 ≡ a0)
-  lane_here : (slot : ℕ) → order0 ≡ OfSlot slot → in_lane slot a0 changed ≡ option_map (λ s. record { number = at0; status = s }) status
-  lane_same : (slot at : ℕ) → order0 ≡ OfSlot slot → at ≢ a0 → in_lane slot at changed ≡ in_lane slot at lanes
-  lane_other : (slot at : ℕ) → (order0 ≡ OfSlot slot → ⊥) → in_lane slot at changed ≡ in_lane slot at lanes
-  old_here : (slot : ℕ) (x : LanePart) → order0 ≡ OfSlot slot → in_lane slot a0 lanes ≡ Some x → x.number ≡ at0
-  before : (slot at : ℕ) (y : LanePart) → order0 ≡ OfSlot slot → in_lane slot at lanes ≡ Some y → at < a0 → y.number < at0
-  behind : (slot at : ℕ) (y : LanePart) → order0 ≡ OfSlot slot → in_lane slot at lanes ≡ Some y → a0 < at → at0 < y.number
+in_other : (slot : ℕ) (o : PartOrder) (s : Status) → (o ≡ OfSlot slot → ⊥) → status_in slot o s ≡ None
+in_other slot (OfSlot t) s ne = elim (same_place slot t) [ inl e ↦ absurd (ne (ap OfSlot (sym e.0))) | inr apart ↦ rw apart.1 refl ]
+in_other slot Whole s ne = refl
+in_other slot Free s ne = refl
 
-some_part : (o : Option Status) (n : ℕ) (x : LanePart) → option_map (λ s. record { number = n; status = s }) o ≡ Some x → (s : Status) × (o ≡ Some s) × (x.number ≡ n) × (x.status ≡ s)
-some_part None n x e = absurd (cc)
-some_part (Some s) n x e =
-    let same : record { number = n; status = s } ≡ x = same_Some (record { number = n; status = s }) x e in
-    (s, refl, ap (λ (y : LanePart). y.number) (sym same), ap (λ (y : LanePart). y.status) (sym same))
+in_own : (slot : ℕ) (s : Status) → status_in slot (OfSlot slot) s ≡ Some s
+in_own slot s = elim (same_place slot slot) [ inl e ↦ rw e.1 refl | inr apart ↦ absurd (apart.0 refl) ]
 
-tied_update : (order new : Order) (spots after : List ℕ) (lanes changed : BTreeMap ℕ lane.Lane) (at0 a0 : ℕ) (order0 : PartOrder) (status : Option Status)
-    → IsTied order spots lanes → Update order new spots after lanes changed at0 a0 order0 status → IsSorted new → length after ≡ length new.parts → IsTied new after changed
-tied_update order new spots after lanes changed at0 a0 order0 status t u sorted many = record {
-  sorted = sorted;
-  spots_length = many;
-  stands = λ q slot p e o. elim (cases_eq q at0) [
-    | inl same ↦
-        let here = u.flat_here p (subst (λ (n : ℕ). ordered_at n new ≡ Some p) same e) in
-        subst (λ (n : ℕ). in_lane slot (spot new after n) changed ≡ Some (record { number = n; status = p.status })) (sym same)
-        (ap (λ n. in_lane slot n changed) here.2 ∙ u.lane_here slot (sym here.0 ∙ o) ∙ ap (option_map (λ s. record { number = at0; status = s })) here.1)
-    | inr ne ↦
-        let old = sym (u.flat_other q ne) ∙ e in
-        let st = t.stands q slot p old o in
-        let moved : in_lane slot (spot new after q) changed ≡ in_lane slot (spot order spots q) changed = ap (λ n. in_lane slot n changed) (u.spot_other q p ne old) in
-        elim (of_slot order0 slot) [
-          | inl is ↦ elim (cases_eq (spot order spots q) a0) [
-            | inl here ↦ absurd (ne (u.old_here slot (record { number = q; status = p.status }) is (ap (λ n. in_lane slot n lanes) (sym here) ∙ st)))
-            | inr apart ↦ moved ∙ u.lane_same slot (spot order spots q) is apart ∙ st
-          ]
-          | inr not ↦ moved ∙ u.lane_other slot (spot order spots q) not ∙ st
-        ]
-  ];
-  comes = λ slot at x e. came order new spots after lanes changed at0 a0 order0 status t u slot at x e;
-  rising = λ slot at next x y lt ex ey. elim (of_slot order0 slot) [
-    | inr not ↦ t.rising slot at next x y lt (sym (u.lane_other slot at not) ∙ ex) (sym (u.lane_other slot next not) ∙ ey)
-    | inl is ↦ elim (cases_eq at a0) [
-      | inl here ↦
-          let n = some_part status at0 x (sym (u.lane_here slot is) ∙ ap (λ n. in_lane slot n changed) (sym here) ∙ ex) in
-          let old = sym (u.lane_same slot next is (omega (arith, here, lt))) ∙ ey in
-          let h = u.behind slot next y is old (omega (arith, here, lt)) in
-          omega (arith, n.2, h)
-      | inr apart ↦ elim (cases_eq next a0) [
-        | inl here ↦
-            let n = some_part status at0 y (sym (u.lane_here slot is) ∙ ap (λ n. in_lane slot n changed) (sym here) ∙ ey) in
-            let old = sym (u.lane_same slot at is apart) ∙ ex in
-            let h = u.before slot at x is old (omega (arith, here, lt)) in
-            omega (arith, n.2, h)
-        | inr far ↦ t.rising slot at next x y lt (sym (u.lane_same slot at is apart) ∙ ex) (sym (u.lane_same slot next is far) ∙ ey)
-      ]
-    ]
-  ];
-}
-  where
-    stayed : (order new : Order) (spots after : List ℕ) (lanes changed : BTreeMap ℕ lane.Lane) (at0 a0 : ℕ) (order0 : PartOrder) (status : Option Status)
-        → IsTied order spots lanes → Update order new spots after lanes changed at0 a0 order0 status
-        → (slot at : ℕ) (x : LanePart) → (order0 ≡ OfSlot slot → at ≢ a0) → in_lane slot at lanes ≡ Some x
-        → (p : OrderedPart) × (ordered_at x.number new ≡ Some p) × (p.order ≡ OfSlot slot) × (spot new after x.number ≡ at)
-    stayed order new spots after lanes changed at0 a0 order0 status t u slot at x apart old =
-        let c = t.comes slot at x old in
-        elim (cases_eq x.number at0) [
-          | inl same ↦
-              let was = u.old_spot c.0 (subst (λ (n : ℕ). ordered_at n order ≡ Some c.0) same c.1) in
-              absurd (apart (sym was.0 ∙ c.2) (sym c.3 ∙ ap (spot order spots) same ∙ was.1))
-          | inr ne ↦ (c.0, u.flat_other x.number ne ∙ c.1, c.2, u.spot_other x.number c.0 ne c.1 ∙ c.3)
-        ]
+in_here : (slot : ℕ) (o : PartOrder) (s : Status) → o ≡ OfSlot slot → status_in slot o s ≡ Some s
+in_here slot o s e = ap (λ x. status_in slot x s) e ∙ in_own slot s
 
-    came : (order new : Order) (spots after : List ℕ) (lanes changed : BTreeMap ℕ lane.Lane) (at0 a0 : ℕ) (order0 : PartOrder) (status : Option Status)
-        → IsTied order spots lanes → Update order new spots after lanes changed at0 a0 order0 status
-        → (slot at : ℕ) (x : LanePart) → in_lane slot at changed ≡ Some x
-        → (p : OrderedPart) × (ordered_at x.number new ≡ Some p) × (p.order ≡ OfSlot slot) × (spot new after x.number ≡ at)
-    came order new spots after lanes changed at0 a0 order0 status t u slot at x e = elim (of_slot order0 slot) [
-      | inr not ↦ stayed order new spots after lanes changed at0 a0 order0 status t u slot at x (λ is. absurd (not is)) (sym (u.lane_other slot at not) ∙ e)
-      | inl is ↦ elim (cases_eq at a0) [
-        | inl here ↦
-            let n = some_part status at0 x (sym (u.lane_here slot is) ∙ ap (λ n. in_lane slot n changed) (sym here) ∙ e) in
-            let f = u.flat_there n.0 n.1 in
-            let h = u.flat_here f.0 f.1 in
-            (f.0, subst (λ (m : ℕ). ordered_at m new ≡ Some f.0) (sym n.2) f.1, h.0 ∙ is, ap (spot new after) n.2 ∙ h.2 ∙ sym here)
-        | inr apart ↦ stayed order new spots after lanes changed at0 a0 order0 status t u slot at x (λ _. apart) (sym (u.lane_same slot at is apart) ∙ e)
-      ]
-    ]
+in_part : (slot : ℕ) (o : PartOrder) (s x : Status) → status_in slot o s ≡ Some x → (o ≡ OfSlot slot) × (s ≡ x)
+in_part slot (OfSlot t) s x h = elim (same_place slot t) [
+  | inl e ↦ (ap OfSlot (sym e.0), same_Some s x (rw e.1 at h))
+  | inr apart ↦ let z : ◌≡◌ {A = Option Status} None (Some x) = rw apart.1 at h in absurd (cc)
+]
+in_part slot Whole s x h = absurd (cc)
+in_part slot Free s x h = absurd (cc)
+
+seen_part : (slot : ℕ) (o : Option OrderedPart) (s : Status) → seen slot o ≡ Some s → (p : OrderedPart) × (o ≡ Some p) × (p.order ≡ OfSlot slot) × (p.status ≡ s)
+seen_part slot None s h = absurd (cc)
+seen_part slot (Some p) s h = let w = in_part slot p.order p.status s h in (p, refl, w.0, w.1)
+
+-- what a status of a slot says of the part, and the other way round
+pub status_part : (slot place : ℕ) (order : Order) (s : Status) → statuses slot order place ≡ Some s → (p : OrderedPart) × (ordered_at place order ≡ Some p) × (p.order ≡ OfSlot slot) × (p.status ≡ s)
+status_part slot place order s e = seen_part slot (ordered_at place order) s e
+
+pub part_status : (slot place : ℕ) (order : Order) (p : OrderedPart) → ordered_at place order ≡ Some p → p.order ≡ OfSlot slot → statuses slot order place ≡ Some p.status
+part_status slot place order p e is = ap (seen slot) e ∙ in_here slot p.order p.status is
+
+open_done : (s : Status) → is_done s ≡ true → IsOpen (Some s) → ⊥
+open_done Waits d o = cc
+open_done (Asked link) d o = cc
+open_done Settled d o = o
+open_done Unsent d o = o
+
+done_closed : (slot : ℕ) (o : PartOrder) (s : Status) → is_done s ≡ true → IsOpen (status_in slot o s) → ⊥
+done_closed slot (OfSlot t) s d h = elim (same_place slot t) [ inl e ↦ open_done s d (rw e.1 at h) | inr apart ↦ rw apart.1 at h ]
+done_closed slot Whole s d h = h
+done_closed slot Free s d h = h
+
+-- ---- bars
+
+in_left : (q place : ℕ) (s : Status) (bars : List ℕ) → In q (left place s bars) → In q bars × (is_done s ≡ true → q ≢ place)
+in_left q place Waits bars h = (h, λ e. absurd (cc))
+in_left q place (Asked link) bars h = (h, λ e. absurd (cc))
+in_left q place Settled bars h = let w = in_without q place bars h in (w.1, λ e. w.0)
+in_left q place Unsent bars h = let w = in_without q place bars h in (w.1, λ e. w.0)
+
+left_in : (q place : ℕ) (s : Status) (bars : List ℕ) → In q bars → (is_done s ≡ true → q ≢ place) → In q (left place s bars)
+left_in q place Waits bars h ne = h
+left_in q place (Asked link) bars h ne = h
+left_in q place Settled bars h ne = without_in q place bars (ne refl) h
+left_in q place Unsent bars h ne = without_in q place bars (ne refl) h
+
+ascends_left : (place : ℕ) (s : Status) (bars : List ℕ) → Ascends bars → Ascends (left place s bars)
+ascends_left place Waits bars a = a
+ascends_left place (Asked link) bars a = a
+ascends_left place Settled bars a = ascends_without place bars a
+ascends_left place Unsent bars a = ascends_without place bars a
+
+in_entered : (q place : ℕ) (of : PartOrder) (bars : List ℕ) → In q (entered of place bars) → ((place ≡ q) × (of ≡ Whole)) ⊎ In q bars
+in_entered q place (OfSlot slot) bars h = inr h
+in_entered q place Whole bars h = elim (in_pushed q place bars h) [ inl e ↦ inl (e, refl) | inr i ↦ inr i ]
+in_entered q place Free bars h = inr h
+
+entered_in : (q place : ℕ) (of : PartOrder) (bars : List ℕ) → ((place ≡ q) × (of ≡ Whole)) ⊎ In q bars → In q (entered of place bars)
+entered_in q place (OfSlot slot) bars h = elim h [ inl e ↦ absurd (cc) | inr i ↦ i ]
+entered_in q place Whole bars h = pushed_in q place bars (elim h [ inl e ↦ inl e.0 | inr i ↦ inr i ])
+entered_in q place Free bars h = elim h [ inl e ↦ absurd (cc) | inr i ↦ i ]
+
+ascends_entered : (place : ℕ) (of : PartOrder) (bars : List ℕ) → Ascends bars → ((q : ℕ) → In q bars → q < place) → Ascends (entered of place bars)
+ascends_entered place (OfSlot slot) bars a top = a
+ascends_entered place Whole bars a top = ascends_pushed place bars a top
+ascends_entered place Free bars a top = a
 
 -- ---- a status changes
 
-pub tied_changed : (order : Order) (spots : List ℕ) (lanes changed : BTreeMap ℕ lane.Lane) (place : ℕ) (s : Status) (p : OrderedPart) → IsTied order spots lanes → ordered_at place order ≡ Some p
-    → Stepped p.order (lane.with_status (spot order spots place) s) lanes changed → IsTied (with_status place s order) spots changed
-tied_changed order spots lanes changed place s p t e step =
-    let a0 : ℕ = spot order spots place in
+pub may_undone : (place : ℕ) (s : Status) (order : Order) (p : OrderedPart) → MayChange place s order → ordered_at place order ≡ Some p → is_done p.status ≡ false
+may_undone place Waits order p may e = ap (λ (x : OrderedPart). is_done x.status) (same_Some p may.0 (sym e ∙ may.2)) ∙ ap is_done may.3
+may_undone place (Asked link) order p may e = ap (λ (x : OrderedPart). is_done x.status) (same_Some p may.it (sym e ∙ may.there)) ∙ ap is_done may.waits
+may_undone place Settled order p may e = ap (λ (x : OrderedPart). is_done x.status) (same_Some p may.0 (sym e ∙ may.2)) ∙ ap is_done may.3
+may_undone place Unsent order p may e = ap (λ (x : OrderedPart). is_done x.status) (same_Some p may.0 (sym e ∙ may.1)) ∙ ap is_done may.2
+
+pub changes_there : (place : ℕ) (s : Status) (order : Order) → MayChange place s order → (p : OrderedPart) × (ordered_at place order ≡ Some p)
+changes_there place Waits order may = (may.0, may.2)
+changes_there place (Asked link) order may = (may.it, may.there)
+changes_there place Settled order may = (may.0, may.2)
+changes_there place Unsent order may = (may.0, may.1)
+
+undone_twice : (s : Status) → is_done s ≡ true → is_done s ≡ false → ⊥
+undone_twice s t f = let q : true ≡ false = sym t ∙ f in cc
+
+asked_undone : (link : ℕ) (p : OrderedPart) → p.status ≡ Asked link → is_done p.status ≡ true → ⊥
+asked_undone link p e d = undone_twice p.status d (ap is_done e)
+
+asked_effective : (link : ℕ) (p : OrderedPart) → p.status ≡ Asked link → is_effective p.status ≡ false → ⊥
+asked_effective link p e f = let q : true ≡ false = ap is_effective (sym e) ∙ f in cc
+
+-- the other parts of its slot that are on their way, if one may be asked
+others_ahead : (order : Order) (place link slot q other : ℕ) → IsSorted order → (m : MayAskAmong have_slot place link order) → m.it.order ≡ OfSlot slot
+    → statuses slot order q ≡ Some (Asked other) → (other ≡ link) × (q < place)
+others_ahead order place link slot q other s m is e =
+    let p = status_part slot q order (Asked other) e in
+    elim (cases_lt q place) [
+      | inl lt ↦
+          let same = both_of_slot p.0.order m.it.order slot p.2 is in
+          elim (m.earlier q p.0 p.1 (s.slots q place p.0 m.it lt p.1 m.there same) same) [
+            | inl done ↦ absurd (asked_undone other p.0 p.3 done)
+            | inr on ↦ (let z : Asked other ≡ Asked link = sym p.3 ∙ on.1 in (let w : other ≡ link = cc in w), lt)
+          ]
+      | inr ge ↦ elim (cases_eq q place) [
+        | inl same ↦
+            let it : p.0 ≡ m.it = same_Some p.0 m.it (sym p.1 ∙ ap (λ n. ordered_at n order) same ∙ m.there) in
+            let z : Asked other ≡ Waits = sym p.3 ∙ ap (λ (x : OrderedPart). x.status) it ∙ m.waits in absurd (cc)
+        | inr ne ↦
+            let same = both_of_slot m.it.order p.0.order slot is p.2 in
+            absurd (asked_effective other p.0 p.3 (m.later q p.0 p.1 (s.slots place q m.it p.0 (omega arith) m.there p.1 same) same))
+      ]
+    ]
+
+moves : (order : Order) (place slot : ℕ) (s : Status) (p : OrderedPart) → IsSorted order → ordered_at place order ≡ Some p → p.order ≡ OfSlot slot → MayChange place s order → MayMove (statuses slot order) place s
+moves order place slot Waits p sorted e is may = (may.1, part_status slot place order p e is ∙ ap (λ (x : OrderedPart). Some x.status) (same_Some p may.0 (sym e ∙ may.2)) ∙ ap (λ s. Some s) may.3)
+moves order place slot (Asked link) p sorted e is may =
+    let same = same_Some p may.it (sym e ∙ may.there) in
+    let of : may.it.order ≡ OfSlot slot = ap (λ (x : OrderedPart). x.order) (sym same) ∙ is in
+    (part_status slot place order may.it may.there of ∙ ap (λ s. Some s) may.waits, λ q other a. others_ahead order place link slot q other sorted may of a)
+moves order place slot Settled p sorted e is may = (may.1, part_status slot place order p e is ∙ ap (λ (x : OrderedPart). Some x.status) (same_Some p may.0 (sym e ∙ may.2)) ∙ ap (λ s. Some s) may.3)
+moves order place slot Unsent p sorted e is may = part_status slot place order p e is ∙ ap (λ (x : OrderedPart). Some x.status) (same_Some p may.0 (sym e ∙ may.1)) ∙ ap (λ s. Some s) may.2
+
+-- so the lane of its slot may take the step
+pub becomes : (order : Order) (lanes : BTreeMap ℕ lane.Lane) (bars : List ℕ) (place slot : ℕ) (s : Status) (p : OrderedPart) → IsTied order lanes bars → ordered_at place order ≡ Some p → p.order ≡ OfSlot slot → MayChange place s order
+    → lane.MayBecome place s (lane_of slot lanes)
+becomes order lanes bars place slot s p t e is may =
+    let w = at_within place order.first order.parts p e in
+    may_become order.first place s (statuses slot order) (lane_of slot lanes) (t.lane slot) (moves order place slot s p t.sorted e is may) (omega (arith, w.1, t.sorted.fits))
+
+-- a lane that took a step, or is gone since it is empty
+stepped_lane : (first slot : ℕ) (step : lane.Lane → lane.Lane) (new : ℕ → Option Status) (lanes changed : BTreeMap ℕ lane.Lane) → IsLaneOf first new (step (lane_of slot lanes))
+    → (lane_of slot changed ≡ step (lane_of slot lanes)) ⊎ ((lane_of slot changed ≡ lane.no_lane) × IsEmpty (step (lane_of slot lanes))) → IsLaneOf first new (lane_of slot changed)
+stepped_lane first slot step new lanes changed l h = elim h [
+  | inl e ↦ subst (IsLaneOf first new) (sym e) l
+  | inr f ↦ subst (IsLaneOf first new) (sym f.0) (lane_freed first new (step (lane_of slot lanes)) l f.1.0 f.1.1)
+]
+
+pub tied_changed : (order : Order) (lanes changed : BTreeMap ℕ lane.Lane) (bars : List ℕ) (place : ℕ) (s : Status) (p : OrderedPart) → IsTied order lanes bars → ordered_at place order ≡ Some p → MayChange place s order
+    → Stepped p.order (lane.with_status place s) lanes changed → IsTied (with_status place s order) changed (left place s bars)
+tied_changed order lanes changed bars place s p t e may step =
     let w = at_within place order.first order.parts p e in
     let many = length-changed (λ (part : OrderedPart). record part { status = s }) (place - order.first) order.parts in
-    let new : Order = with_status place s order in
-    let here : ordered_at place new ≡ Some (record p { status = s }) = changed_same (λ (part : OrderedPart). record part { status = s }) place order.first order.parts p e in
-    let other : (q : ℕ) → q ≢ place → ordered_at q new ≡ ordered_at q order = λ q ne. changed_other (λ (part : OrderedPart). record part { status = s }) place q order.first order.parts w.0 ne in
-    let stands : (slot : ℕ) → p.order ≡ OfSlot slot → lane.part_in (spot order spots place) (lane_of slot lanes) ≡ Some (record { number = place; status = p.status }) = λ slot is. sym (in_lane_is slot (spot order spots place) lanes) ∙ t.stands place slot p e is in
-    tied_update order new spots spots lanes changed place (spot order spots place) p.order (Some s) t (record {
-      flat_here = λ q eq. let same : record p { status = s } ≡ q = same_Some (record p { status = s }) q (sym here ∙ eq) in
-          (ap (λ (x : OrderedPart). x.order) (sym same), ap (λ (x : OrderedPart). Some x.status) same, refl);
-      flat_there = λ x is. (record p { status = s }, here);
-      flat_other = other;
-      spot_other = λ q x ne eq. refl;
-      old_spot = λ q eq. (ap (λ (x : OrderedPart). x.order) (same_Some q p (sym eq ∙ e)), refl);
-      lane_here = λ slot is. step.here slot (spot order spots place) is ∙ changed_same (λ (part : LanePart). record part { status = s }) (spot order spots place) (lane_of slot lanes).first (lane_of slot lanes).parts (record { number = place; status = p.status }) (stands slot is);
-      lane_same = λ slot at is ne.
-          let b = at_within (spot order spots place) (lane_of slot lanes).first (lane_of slot lanes).parts (record { number = place; status = p.status }) (stands slot is) in
-          step.here slot at is ∙ changed_other (λ (part : LanePart). record part { status = s }) (spot order spots place) at (lane_of slot lanes).first (lane_of slot lanes).parts b.0 ne ∙ sym (in_lane_is slot at lanes);
-      lane_other = step.others;
-      old_here = λ slot x is eq. ap (λ (y : LanePart). y.number) (same_Some x (record { number = place; status = p.status }) (sym eq ∙ t.stands place slot p e is));
-      before = λ slot at y is ey lt. t.rising slot at (spot order spots place) y (record { number = place; status = p.status }) lt ey (t.stands place slot p e is);
-      behind = λ slot at y is ey lt. t.rising slot (spot order spots place) at (record { number = place; status = p.status }) y lt (t.stands place slot p e is) ey;
-    })
-    (sorted_kept order new t.sorted (λ at q eq. elim (cases_eq at place) [
-      | inl same ↦ let is : record p { status = s } ≡ q = same_Some (record p { status = s }) q (sym here ∙ ap (λ n. ordered_at n new) (sym same) ∙ eq) in
-          (p, subst (λ (n : ℕ). ordered_at n order ≡ Some p) (sym same) e, ap (λ (x : OrderedPart). x.seat) is, ap (λ (x : OrderedPart). x.order) is)
-      | inr ne ↦ (q, sym (other at ne) ∙ eq, refl, refl)
-    ]) (omega (arith, many, t.sorted.fits)))
-    (t.spots_length ∙ sym many)
+    let here : ordered_at place (with_status place s order) ≡ Some (record p { status = s }) = changed_same (λ (part : OrderedPart). record part { status = s }) place order.first order.parts p e in
+    let other : (q : ℕ) → q ≢ place → ordered_at q (with_status place s order) ≡ ordered_at q order = λ q ne. changed_other (λ (part : OrderedPart). record part { status = s }) place q order.first order.parts w.0 ne in
+    let undone = may_undone place s order p may e in
+    record {
+      sorted = sorted_kept order (with_status place s order) t.sorted (λ at q eq. elim (cases_eq at place) [
+        | inl same ↦ let is : record p { status = s } ≡ q = same_Some (record p { status = s }) q (sym here ∙ ap (λ n. ordered_at n (with_status place s order)) (sym same) ∙ eq) in
+            (p, subst (λ (n : ℕ). ordered_at n order ≡ Some p) (sym same) e, ap (λ (x : OrderedPart). x.seat) is, ap (λ (x : OrderedPart). x.order) is)
+        | inr ne ↦ (q, sym (other at ne) ∙ eq, refl, refl)
+      ]) (omega (arith, many, t.sorted.fits));
+      lane = λ slot. elim (of_slot p.order slot) [
+        | inl is ↦ stepped_lane order.first slot (lane.with_status place s) (statuses slot (with_status place s order)) lanes changed
+            (lane_changed order.first place s (statuses slot order) (statuses slot (with_status place s order)) (lane_of slot lanes) (t.lane slot) (moves order place slot s p t.sorted e is may)
+            (part_status slot place (with_status place s order) (record p { status = s }) here is) (λ q ne. ap (seen slot) (other q ne)))
+            (step.here slot is)
+        | inr not ↦ subst (IsLaneOf order.first (statuses slot (with_status place s order))) (sym (step.others slot not))
+            (lane_same order.first (statuses slot order) (statuses slot (with_status place s order)) (lane_of slot lanes) (t.lane slot) (λ q. elim (cases_eq q place) [
+              | inl same ↦ subst (λ (n : ℕ). statuses slot (with_status place s order) n ≡ statuses slot order n) (sym same)
+                  (ap (seen slot) here ∙ in_other slot p.order s not ∙ sym (ap (seen slot) e ∙ in_other slot p.order p.status not))
+              | inr ne ↦ ap (seen slot) (other q ne)
+            ]))
+      ];
+      bar_in = λ q h.
+          let w = in_left q place s bars h in
+          let bar = t.bar_in q w.0 in
+          elim (cases_eq q place) [
+            | inl same ↦
+                let is : bar.0 ≡ p = same_Some bar.0 p (sym bar.1 ∙ ap (λ n. ordered_at n order) same ∙ e) in
+                (record p { status = s }, ap (λ n. ordered_at n (with_status place s order)) same ∙ here, ap (λ (x : OrderedPart). x.order) (sym is) ∙ bar.2,
+                elim (bool_cases (is_done s)) [ inl done ↦ absurd (w.1 done same) | inr not ↦ not ])
+            | inr ne ↦ (bar.0, other q ne ∙ bar.1, bar.2, bar.3)
+          ];
+      bar_there = λ q bar. elim (cases_eq q place) [
+        | inl same ↦
+            let is : record p { status = s } ≡ bar.0 = same_Some (record p { status = s }) bar.0 (sym here ∙ ap (λ n. ordered_at n (with_status place s order)) (sym same) ∙ bar.1) in
+            let there = t.bar_there q (p, ap (λ n. ordered_at n order) same ∙ e, ap (λ (x : OrderedPart). x.order) is ∙ bar.2, undone) in
+            left_in q place s bars there (λ done. absurd (undone_twice s done (ap (λ (x : OrderedPart). is_done x.status) is ∙ bar.3)))
+        | inr ne ↦ left_in q place s bars (t.bar_there q (bar.0, sym (other q ne) ∙ bar.1, bar.2, bar.3)) (λ done. ne)
+      ];
+      ascends = ascends_left place s bars t.ascends;
+    }
 
--- ---- the first part is forgotten, or the last one taken back
+-- ---- a part that is done is forgotten, at the front or at the end
 
--- what both have in common: the part at a place is gone, and so is its place in its lane
-tied_without : (order new : Order) (spots after : List ℕ) (lanes changed : BTreeMap ℕ lane.Lane) (place : ℕ) (p : OrderedPart) → IsTied order spots lanes → ordered_at place order ≡ Some p
-    → ordered_at place new ≡ None → ((q : ℕ) → q ≢ place → ordered_at q new ≡ ordered_at q order)
-    → ((q : ℕ) (x : OrderedPart) → q ≢ place → ordered_at q order ≡ Some x → spot new after q ≡ spot order spots q)
-    → ((slot : ℕ) → p.order ≡ OfSlot slot → in_lane slot (spot order spots place) changed ≡ None)
-    → ((slot at : ℕ) → p.order ≡ OfSlot slot → at ≢ spot order spots place → in_lane slot at changed ≡ in_lane slot at lanes)
-    → ((slot at : ℕ) → (p.order ≡ OfSlot slot → ⊥) → in_lane slot at changed ≡ in_lane slot at lanes)
-    → new.first + length new.parts < 2 ^ 64 → length after ≡ length new.parts → IsTied new after changed
-tied_without order new spots after lanes changed place p t e gone other spot_other here same others fits many =
-    tied_update order new spots after lanes changed place (spot order spots place) p.order None t (record {
-      flat_here = λ q eq. let both : ◌≡◌ {A = Option OrderedPart} None (Some q) = sym gone ∙ eq in absurd (cc);
-      flat_there = λ x is. absurd (cc);
-      flat_other = other;
-      spot_other = spot_other;
-      old_spot = λ q eq. (ap (λ (x : OrderedPart). x.order) (same_Some q p (sym eq ∙ e)), refl);
-      lane_here = here;
-      lane_same = same;
-      lane_other = others;
-      old_here = λ slot x is eq. ap (λ (y : LanePart). y.number) (same_Some x (record { number = place; status = p.status }) (sym eq ∙ t.stands place slot p e is));
-      before = λ slot at y is ey lt. t.rising slot at (spot order spots place) y (record { number = place; status = p.status }) lt ey (t.stands place slot p e is);
-      behind = λ slot at y is ey lt. t.rising slot (spot order spots place) at (record { number = place; status = p.status }) y lt (t.stands place slot p e is) ey;
-    })
-    (sorted_kept order new t.sorted (λ at q eq. elim (cases_eq at place) [
-      | inl is ↦ let both : ◌≡◌ {A = Option OrderedPart} None (Some q) = sym gone ∙ ap (λ n. ordered_at n new) (sym is) ∙ eq in absurd (cc)
-      | inr ne ↦ (q, sym (other at ne) ∙ eq, refl, refl)
-    ]) fits)
-    many
+pub tied_gone : (order new : Order) (lanes : BTreeMap ℕ lane.Lane) (bars : List ℕ) (place : ℕ) (p : OrderedPart) → IsTied order lanes bars → ordered_at place order ≡ Some p → is_done p.status ≡ true
+    → ordered_at place new ≡ None → ((q : ℕ) → q ≢ place → ordered_at q new ≡ ordered_at q order) → order.first ≤ new.first → (new.first ≤ place → p.status ≡ Settled → ⊥)
+    → new.first + length new.parts < 2 ^ 64 → IsTied new lanes bars
+tied_gone order new lanes bars place p t e done gone other later not fits =
+    let apart : (q : ℕ) (x : OrderedPart) → ordered_at q new ≡ Some x → q ≢ place = λ q x ex same. (let z : ◌≡◌ {A = Option OrderedPart} None (Some x) = sym gone ∙ ap (λ n. ordered_at n new) (sym same) ∙ ex in cc) in
+    record {
+      sorted = sorted_kept order new t.sorted (λ at q eq. (q, sym (other at (apart at q eq)) ∙ eq, refl, refl)) fits;
+      lane = λ slot. lane_gone order.first new.first place (statuses slot order) (statuses slot new) (lane_of slot lanes) (t.lane slot)
+          (λ o. done_closed slot p.order p.status done (subst IsOpen (ap (seen slot) e) o)) later
+          (λ le s. let x = status_part slot place order Settled s in not le (ap (λ (y : OrderedPart). y.status) (same_Some p x.0 (sym e ∙ x.1)) ∙ x.3))
+          (ap (seen slot) gone) (λ q ne. ap (seen slot) (other q ne));
+      bar_in = λ q h.
+          let bar = t.bar_in q h in
+          let ne : q ≢ place = λ same. undone_twice p.status done (ap (λ (x : OrderedPart). is_done x.status) (same_Some p bar.0 (sym e ∙ ap (λ n. ordered_at n order) (sym same) ∙ bar.1)) ∙ bar.3) in
+          (bar.0, other q ne ∙ bar.1, bar.2, bar.3);
+      bar_there = λ q bar. t.bar_there q (bar.0, sym (other q (apart q bar.0 bar.1)) ∙ bar.1, bar.2, bar.3);
+      ascends = t.ascends;
+    }
 
--- the first part of the order is the first of its lane
-pub first_spot : (order : Order) (spots : List ℕ) (lanes : BTreeMap ℕ lane.Lane) (slot : ℕ) (p : OrderedPart) → IsTied order spots lanes → ordered_at order.first order ≡ Some p → p.order ≡ OfSlot slot
-    → spot order spots order.first ≡ (lane_of slot lanes).first
-first_spot order spots lanes slot p t e is =
-    let st = t.stands order.first slot p e is in
-    let l : lane.Lane = lane_of slot lanes in
-    let w = at_within (spot order spots order.first) (lane_of slot lanes).first (lane_of slot lanes).parts (record { number = order.first; status = p.status }) (sym (in_lane_is slot (spot order spots order.first) lanes) ∙ st) in
-    elim (cases_lt (lane_of slot lanes).first (spot order spots order.first)) [
-      | inl lt ↦
-          let x = at_there (lane_of slot lanes).first (lane_of slot lanes).first (lane_of slot lanes).parts (omega arith) (omega (arith, w.0, w.1)) in
-          let old = in_lane_is slot (lane_of slot lanes).first lanes ∙ x.1 in
-          let less = t.rising slot (lane_of slot lanes).first (spot order spots order.first) x.0 (record { number = order.first; status = p.status }) lt old st in
-          let c = t.comes slot (lane_of slot lanes).first x.0 old in
-          let b = at_within x.0.number order.first order.parts c.0 c.1 in
-          absurd (omega (arith, less, b.0))
-      | inr ge ↦ omega (arith, ge, w.0)
-    ]
-
--- and the last one the last
-pub last_spot : (order : Order) (spots : List ℕ) (lanes : BTreeMap ℕ lane.Lane) (slot place : ℕ) (p : OrderedPart) → IsTied order spots lanes → place + 1 ≡ order.first + length order.parts → ordered_at place order ≡ Some p → p.order ≡ OfSlot slot
-    → spot order spots place + 1 ≡ lane_end slot lanes
-last_spot order spots lanes slot place p t end e is =
-    let st = t.stands place slot p e is in
-    let w = at_within (spot order spots place) (lane_of slot lanes).first (lane_of slot lanes).parts (record { number = place; status = p.status }) (sym (in_lane_is slot (spot order spots place) lanes) ∙ st) in
-    elim (cases_lt (spot order spots place + 1) (lane_end slot lanes)) [
-      | inl lt ↦
-          let x = at_there (spot order spots place + 1) (lane_of slot lanes).first (lane_of slot lanes).parts (omega (arith, w.0)) lt in
-          let old = in_lane_is slot (spot order spots place + 1) lanes ∙ x.1 in
-          let more = t.rising slot (spot order spots place) (spot order spots place + 1) (record { number = place; status = p.status }) x.0 (omega arith) st old in
-          let c = t.comes slot (spot order spots place + 1) x.0 old in
-          let b = at_within x.0.number order.first order.parts c.0 c.1 in
-          absurd (omega (arith, more, b.1, end))
-      | inr ge ↦ omega (arith, ge, w.1)
-    ]
-
-pub tied_forgot : (order : Order) (spots : List ℕ) (lanes changed : BTreeMap ℕ lane.Lane) (p : OrderedPart) → IsTied order spots lanes → ordered_at order.first order ≡ Some p
-    → Stepped p.order (lane.forgotten 1) lanes changed → IsTied (without_first order) (drop 1 spots) changed
-tied_forgot order spots lanes changed p t e step =
+pub tied_forgot : (order : Order) (lanes : BTreeMap ℕ lane.Lane) (bars : List ℕ) (p : OrderedPart) → IsTied order lanes bars → ordered_at order.first order ≡ Some p → is_done p.status ≡ true → IsTied (without_first order) lanes bars
+tied_forgot order lanes bars p t e done =
     let w = at_within order.first order.first order.parts p e in
     let many = length-drop 1 order.parts in
-    tied_without order (without_first order) spots (drop 1 spots) lanes changed order.first p t e
+    tied_gone order (without_first order) lanes bars order.first p t e done
     (at_below order.first (order.first + 1) (drop 1 order.parts) (omega arith))
     (λ q ne. dropped_other q order.first order.parts ne)
-    (λ q x ne eq.
-    let b = at_within q order.first order.parts x eq in
-    let next : 1 + (q - (order.first + 1)) ≡ q - order.first = omega (arith, b.0, ne) in
-    get_or_after_one spots (q - (order.first + 1)) 0 ∙ ap (λ i. get_or spots i 0) next)
-    (λ slot is. let a = first_spot order spots lanes slot p t e is in
-    step.here slot (spot order spots order.first) is
-    ∙ at_below (spot order spots order.first) ((lane_of slot lanes).first + 1) (drop 1 (lane_of slot lanes).parts) (omega (arith, a)))
-    (λ slot at is ne. let a = first_spot order spots lanes slot p t e is in
-    let apart : at ≢ (lane_of slot lanes).first = omega (arith, a, ne) in
-    step.here slot at is ∙ dropped_other at (lane_of slot lanes).first (lane_of slot lanes).parts apart ∙ sym (in_lane_is slot at lanes))
-    step.others
+    (omega arith)
+    (λ le s. omega (arith, le))
     (omega (arith, many, w.1, t.sorted.fits))
-    (length-drop 1 spots ∙ ap (λ n. n - 1) t.spots_length ∙ sym many)
 
-pub tied_left : (order : Order) (spots : List ℕ) (lanes changed : BTreeMap ℕ lane.Lane) (place : ℕ) (p : OrderedPart) → IsTied order spots lanes → place + 1 ≡ order.first + length order.parts → ordered_at place order ≡ Some p
-    → Stepped p.order lane.without_last lanes changed → IsTied (without_last order) (take (length order.parts - 1) spots) changed
-tied_left order spots lanes changed place p t end e step =
+-- the last part, which waits, is taken back
+pub tied_left : (order : Order) (lanes changed : BTreeMap ℕ lane.Lane) (bars : List ℕ) (place : ℕ) (p : OrderedPart) → IsTied order lanes bars → place + 1 ≡ order.first + length order.parts → ordered_at place order ≡ Some p → p.status ≡ Waits
+    → Stepped p.order (lane.with_status place Unsent) lanes changed → IsTied (without_last order) changed (left place Unsent bars)
+tied_left order lanes changed bars place p t end e waits step =
     let w = at_within place order.first order.parts p e in
     let some : 0 < length order.parts = omega (arith, w.0, w.1) in
     let many = length-take (length order.parts - 1) order.parts in
-    tied_without order (without_last order) spots (take (length order.parts - 1) spots) lanes changed place p t e
+    tied_gone (with_status place Unsent order) (without_last order) changed (left place Unsent bars) place (record p { status = Unsent })
+    (tied_changed order lanes changed bars place Unsent p t e (p, e, waits) step)
+    (changed_same (λ (part : OrderedPart). record part { status = Unsent }) place order.first order.parts p e) refl
     (left_last place order.first order.parts end)
-    (λ q ne. let apart : q + 1 ≢ order.first + length order.parts = omega (arith, ne, end) in left_other q order.first order.parts apart some)
-    (λ q x ne eq.
-    let b = at_within q order.first order.parts x eq in
-    get_or-take (length order.parts - 1) spots (q - order.first) 0 (omega (arith, b.0, b.1, ne, end)))
-    (λ slot is. let a = last_spot order spots lanes slot place p t end e is in
-    step.here slot (spot order spots place) is ∙ left_last (spot order spots place) (lane_of slot lanes).first (lane_of slot lanes).parts a)
-    (λ slot at is ne.
-    let a = last_spot order spots lanes slot place p t end e is in
-    let apart : at + 1 ≢ lane_end slot lanes = omega (arith, a, ne) in
-    let v = at_within (spot order spots place) (lane_of slot lanes).first (lane_of slot lanes).parts (record { number = place; status = p.status }) (sym (in_lane_is slot (spot order spots place) lanes) ∙ t.stands place slot p e is) in
-    step.here slot at is ∙ left_other at (lane_of slot lanes).first (lane_of slot lanes).parts apart (omega (arith, v.0, v.1)) ∙ sym (in_lane_is slot at lanes))
-    step.others
+    (λ q ne.
+    let apart : q + 1 ≢ order.first + length order.parts = omega (arith, ne, end) in
+    left_other q order.first order.parts apart some ∙ sym (changed_other (λ (part : OrderedPart). record part { status = Unsent }) place q order.first order.parts w.0 ne))
+    (omega arith)
+    (λ le s. cc)
     (omega (arith, many, w.1, t.sorted.fits))
-    (length-take (length order.parts - 1) spots ∙ ap (λ n. min (length order.parts - 1) n) t.spots_length ∙ sym many)
+
+-- the same lanes in another map
+pub tied_same : (order : Order) (lanes changed : BTreeMap ℕ lane.Lane) (bars : List ℕ) → IsTied order lanes bars → AreSame lanes changed → IsTied order changed bars
+tied_same order lanes changed bars t same = record {
+  sorted = t.sorted;
+  lane = λ slot. subst (IsLaneOf order.first (statuses slot order)) (sym (same slot)) (t.lane slot);
+  bar_in = t.bar_in;
+  bar_there = t.bar_there;
+  ascends = t.ascends;
+}
 
 -- ---- a part joins
 
-pub tied_pushed : (order : Order) (spots : List ℕ) (lanes changed : BTreeMap ℕ lane.Lane) (seat : Seat) (of : PartOrder) (a0 : ℕ) → IsTied order spots lanes → MayFollow seat.call of order
-    → order.first + length order.parts + 1 < 2 ^ 64
-    → Stepped of (lane.joined (order.first + length order.parts)) lanes changed → ((slot : ℕ) → of ≡ OfSlot slot → a0 ≡ lane_end slot lanes)
-    → IsTied (pushed seat of order) (spots ++ a0 ∷ []) changed
-tied_pushed order spots lanes changed seat of a0 t may bound step place =
-    let end : ℕ = order.first + length order.parts in
+pub waits_below : (order : Order) (lanes : BTreeMap ℕ lane.Lane) (bars : List ℕ) (slot q : ℕ) → IsTied order lanes bars → In q (lane_of slot lanes).waiting → q < order.first + length order.parts
+waits_below order lanes bars slot q t h =
+    let p = status_part slot q order Waits ((t.lane slot).waiting_in q h) in
+    (at_within q order.first order.parts p.0 p.1).1
+
+pub tied_pushed : (order : Order) (lanes changed : BTreeMap ℕ lane.Lane) (bars : List ℕ) (seat : Seat) (of : PartOrder) → IsTied order lanes bars → MayFollow seat.call of order
+    → order.first + length order.parts + 1 < 2 ^ 64 → Stepped of (lane.joined (order.first + length order.parts)) lanes changed
+    → IsTied (pushed seat of order) changed (entered of (order.first + length order.parts) bars)
+tied_pushed order lanes changed bars seat of t may bound step =
     let part : OrderedPart = record { seat = seat; order = of; status = Waits } in
-    let new : Order = pushed seat of order in
-    let here : ordered_at (order.first + length order.parts) new ≡ Some part = pushed_last order.first order.parts part in
-    let other : (q : ℕ) → q ≢ order.first + length order.parts → ordered_at q new ≡ ordered_at q order = λ q ne. pushed_other q order.first order.parts part ne in
-    let many = length-append order.parts (part ∷ []) in
-    let longer = length-append spots (a0 ∷ []) in
-    tied_update order new spots (spots ++ a0 ∷ []) lanes changed (order.first + length order.parts) a0 of (Some Waits) t (record {
-      flat_here = λ q eq. let same : part ≡ q = same_Some part q (sym here ∙ eq) in (
-        ap (λ (x : OrderedPart). x.order) (sym same),
-        ap (λ (x : OrderedPart). Some x.status) same,
-        (let at : order.first + length order.parts - order.first ≡ length spots = omega (arith, t.spots_length) in ap (λ i. get_or (spots ++ a0 ∷ []) i 0) at ∙ get_or-append_seam spots a0 [] 0),
-      );
-      flat_there = λ x is. (part, here);
-      flat_other = other;
-      spot_other = λ q x ne eq. let b = at_within q order.first order.parts x eq in get_or-append spots (a0 ∷ []) 0 (q - order.first) (omega (arith, b.0, b.1, t.spots_length));
-      old_spot = λ q eq. let b = at_within (order.first + length order.parts) order.first order.parts q eq in absurd (omega (arith, b.1));
-      lane_here = λ slot is.
-          subst (λ (n : ℕ). in_lane slot n changed ≡ Some (record { number = order.first + length order.parts; status = Waits })) (sym (place slot is))
-          (step.here slot (lane_end slot lanes) is ∙ pushed_last (lane_of slot lanes).first (lane_of slot lanes).parts (record { number = order.first + length order.parts; status = Waits }));
-      lane_same = λ slot at is ne.
-          let apart : at ≢ lane_end slot lanes = omega (arith, place slot is, ne) in
-          step.here slot at is ∙ pushed_other at (lane_of slot lanes).first (lane_of slot lanes).parts (record { number = order.first + length order.parts; status = Waits }) apart ∙ sym (in_lane_is slot at lanes);
-      lane_other = step.others;
-      old_here = λ slot x is eq.
-          let b = at_within a0 (lane_of slot lanes).first (lane_of slot lanes).parts x (sym (in_lane_is slot a0 lanes) ∙ eq) in
-          absurd (omega (arith, b.1, place slot is));
-      before = λ slot at y is ey lt. let c = t.comes slot at y ey in (at_within y.number order.first order.parts c.0 c.1).1;
-      behind = λ slot at y is ey lt.
-          let b = at_within at (lane_of slot lanes).first (lane_of slot lanes).parts y (sym (in_lane_is slot at lanes) ∙ ey) in
-          absurd (omega (arith, b.1, place slot is, lt));
-    })
-    (sorted_pushed order seat of t.sorted may bound)
-    (omega (arith, many, longer, t.spots_length))
+    let here : ordered_at (order.first + length order.parts) (pushed seat of order) ≡ Some part = pushed_last order.first order.parts part in
+    let other : (q : ℕ) → q ≢ order.first + length order.parts → ordered_at q (pushed seat of order) ≡ ordered_at q order = λ q ne. pushed_other q order.first order.parts part ne in
+    let none : ordered_at (order.first + length order.parts) order ≡ None = at_past (order.first + length order.parts) order.first order.parts (omega arith) in
+    record {
+      sorted = sorted_pushed order seat of t.sorted may bound;
+      lane = λ slot. elim (of_slot of slot) [
+        | inl is ↦ stepped_lane order.first slot (lane.joined (order.first + length order.parts)) (statuses slot (pushed seat of order)) lanes changed
+            (lane_joined order.first (order.first + length order.parts) (statuses slot order) (statuses slot (pushed seat of order)) (lane_of slot lanes) (t.lane slot)
+            (λ q s e. let p = status_part slot q order s e in (at_within q order.first order.parts p.0 p.1).1)
+            (part_status slot (order.first + length order.parts) (pushed seat of order) part here is) (λ q ne. ap (seen slot) (other q ne)))
+            (step.here slot is)
+        | inr not ↦ subst (IsLaneOf order.first (statuses slot (pushed seat of order))) (sym (step.others slot not))
+            (lane_same order.first (statuses slot order) (statuses slot (pushed seat of order)) (lane_of slot lanes) (t.lane slot) (λ q. elim (cases_eq q (order.first + length order.parts)) [
+              | inl same ↦ subst (λ (n : ℕ). statuses slot (pushed seat of order) n ≡ statuses slot order n) (sym same) (ap (seen slot) here ∙ in_other slot of Waits not ∙ sym (ap (seen slot) none))
+              | inr ne ↦ ap (seen slot) (other q ne)
+            ]))
+      ];
+      bar_in = λ q h. elim (in_entered q (order.first + length order.parts) of bars h) [
+        | inl e ↦ (part, ap (λ n. ordered_at n (pushed seat of order)) (sym e.0) ∙ here, e.1, refl)
+        | inr i ↦
+            let bar = t.bar_in q i in
+            let b = at_within q order.first order.parts bar.0 bar.1 in
+            (bar.0, other q (omega (arith, b.1)) ∙ bar.1, bar.2, bar.3)
+      ];
+      bar_there = λ q bar. entered_in q (order.first + length order.parts) of bars (elim (pushed_cases order seat of q bar.0 bar.1) [
+        | inl new ↦ inl (sym new.0, new.2 ∙ bar.2)
+        | inr old ↦ inr (t.bar_there q (bar.0, old.1, bar.2, bar.3))
+      ]);
+      ascends = ascends_entered (order.first + length order.parts) of bars t.ascends (λ q h. let bar = t.bar_in q h in (at_within q order.first order.parts bar.0 bar.1).1);
+    }
   where
     pushed_cases : (order : Order) (seat : Seat) (of : PartOrder) (at : ℕ) (p : OrderedPart) → ordered_at at (pushed seat of order) ≡ Some p
         → ((at ≡ order.first + length order.parts) × (seat ≡ p.seat) × (of ≡ p.order)) ⊎ ((at < order.first + length order.parts) × (ordered_at at order ≡ Some p))

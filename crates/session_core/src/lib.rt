@@ -21,7 +21,7 @@ mod ordered_parts;
 mod part;
 mod promises;
 mod replies;
-mod summary_tree;
+mod sorted_places;
 
 pub use laws::{each_link, take_or_break};
 pub use link::{BreakCause, Link, Standing, Taken, Ticket, Wait};

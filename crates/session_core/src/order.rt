@@ -29,8 +29,6 @@ use std::marker::Model;
 #[derive(Drop)]
 pub struct CallerOrder {
     parts: OrderedParts,
-    /// The first part without a slot that is not done, or the end.
-    barrier: u64,
 }
 
 impl Model for CallerOrder {
@@ -41,7 +39,7 @@ impl Model for CallerOrder {
 
     ghost view = { λ s. s.parts };
 
-    ghost invariant = { λ s. IsGateKept s.parts s.barrier };
+    ghost invariant = { λ s. IsGateKept s.parts };
 }
 
 impl CallerOrder {
@@ -51,7 +49,6 @@ impl CallerOrder {
     {
         CallerOrder {
             parts: OrderedParts::new(alloc),
-            barrier: 0,
         }
     }
 
@@ -75,7 +72,6 @@ impl CallerOrder {
         ensures not { result ≡ false → self.now.first ≤ place }
         ensures front { IsTrimmed self.now }
     {
-        let _ = &self.barrier;
         place < self.parts.first()
     }
 
@@ -91,7 +87,6 @@ impl CallerOrder {
         ensures err { OnErr result (self.new ≡ self.old) }
     {
         join_all(alloc, &mut self.parts, call, orders)?;
-        self.barrier = first_bar(&self.parts, self.barrier);
         Ok(())
     }
 
@@ -167,7 +162,6 @@ impl CallerOrder {
     {
         self.parts.change(place, Status::Settled);
         trim(&mut self.parts);
-        self.barrier = first_bar(&self.parts, self.barrier);
     }
 
     /// Notes that a part that waits will not be asked any more, and did not run. It may stand behind
@@ -178,7 +172,6 @@ impl CallerOrder {
     {
         self.parts.change(place, Status::Unsent);
         trim(&mut self.parts);
-        self.barrier = first_bar(&self.parts, self.barrier);
     }
 
     /// Whether the part at a place waits for calls before its own, whatever becomes of its slot: it has no slot and an
@@ -203,7 +196,7 @@ impl CallerOrder {
         ensures free { result ≡ false → (place : ℕ) (p : OrderedPart)
             → ordered_at place self.now ≡ Some p → p.seat.call < call → IsBar place self.now → ⊥ }
     {
-        match self.parts.part(self.barrier) {
+        match self.parts.first_bar() {
             Some(bar) => bar.seat.call < call,
             None => false,
         }
@@ -237,7 +230,6 @@ impl CallerOrder {
         ensures sorted { IsSorted self.now }
         ensures alone { IsAlone self.now }
     {
-        let _ = &self.barrier;
         match self.parts.part(self.parts.first()) {
             Some(front) => front.seat.call < call,
             None => false,
@@ -305,31 +297,6 @@ fn is_front_done(parts: &OrderedParts) -> bool
 {
     match parts.part(parts.first()) {
         Some(front) => front.status.is_done(),
-        None => false,
-    }
-}
-
-/// The first part from a place on that has no slot and is not done, or the end.
-fn first_bar(parts: &OrderedParts, from: u64) -> u64
-    requires { from ≤ parts.now.first + length parts.now.parts }
-    ensures passed { (place : ℕ) → from ≤ place → place < result → IsBar place parts.now → ⊥ }
-    ensures bars { result < parts.now.first + length parts.now.parts → IsBar result parts.now }
-    ensures within { result ≤ parts.now.first + length parts.now.parts }
-{
-    for place in from..parts.end() {
-        if is_bar(parts, place) {
-            return place;
-        }
-    }
-    parts.end()
-}
-
-fn is_bar(parts: &OrderedParts, place: u64) -> bool
-    ensures bar { result ≡ true → IsBar place parts.now }
-    ensures not { result ≡ false → IsBar place parts.now → ⊥ }
-{
-    match parts.part(place) {
-        Some(part) => matches!(part.order, PartOrder::Whole) && !part.status.is_done(),
         None => false,
     }
 }

@@ -7,25 +7,27 @@ ghost use Rattle.session_core.specs.declared.ordered_part.Status.TheVariants.{Wa
 ghost use Rattle.session_core.specs.declared.part.PartOrder.TheVariants.{OfSlot, Free};
 ghost use Rattle.session_core.specs.Part.{have_slot};
 ghost use Rattle.session_core.specs.Order.{no_order, ordered_at, MayAskAmong, IsOf, Offers, NamesWaiting, IsOvertaken, marked, with_status};
-ghost use Rattle.session_core.specs.Inner.Tied.{IsSorted, MayChange, without_first, without_last, pushed, MayFollow, IsFirstOver, IsLastOpen};
+ghost use Rattle.session_core.specs.Inner.Lane.{Ascends};
+ghost use Rattle.session_core.specs.Inner.Tied.{IsSorted, IsBar, IsFirstBar, MayChange, entered, left, without_first, without_last, pushed, MayFollow, IsFirstOver, IsLastOpen};
 
 use crate::lanes;
 use crate::lanes::Lanes;
 use crate::ordered_part::{Askable, OrderedPart, Overtaken, Seat, Status};
 use crate::part::PartOrder;
+use crate::sorted_places::take_place;
 use std::alloc::{AllocError, Global};
 use std::collections::{BTreeMap, VecDeque};
 use std::marker::Model;
 
-/// The parts of one caller in the order of its calls. A part of a slot also stands in the lane of the
-/// slot.
+/// The parts of one caller in the order of its calls. An open part of a slot also stands in the lane of
+/// the slot.
 #[derive(Drop)]
 pub(crate) struct OrderedParts {
     first: u64,
     parts: VecDeque<OrderedPart>,
-    /// Where each part stands in its lane. A part without a slot has 0.
-    spots: VecDeque<u64>,
     lanes: Lanes,
+    /// The places of the parts without a slot that are not done.
+    bars: VecDeque<u64>,
 }
 
 impl Model for OrderedParts {
@@ -36,7 +38,7 @@ impl Model for OrderedParts {
 
     ghost view = { λ s. record { first = s.first; parts = s.parts.items } };
 
-    ghost invariant = { λ s. IsTied (record { first = s.first; parts = s.parts.items }) s.spots.items s.lanes };
+    ghost invariant = { λ s. IsTied (record { first = s.first; parts = s.parts.items }) s.lanes s.bars.items };
 }
 
 impl OrderedParts {
@@ -46,8 +48,8 @@ impl OrderedParts {
         OrderedParts {
             first: 0,
             parts: VecDeque::new(alloc),
-            spots: VecDeque::new(alloc),
             lanes: BTreeMap::new(alloc),
+            bars: VecDeque::new(alloc),
         }
     }
 
@@ -101,15 +103,14 @@ impl OrderedParts {
             return Err(AllocError);
         }
         self.parts.reserve(1)?;
-        self.spots.reserve(1)?;
-        let spot = lanes::join(alloc, &mut self.lanes, order, place)?;
+        enter_bars(&mut self.bars, order, place)?;
+        lanes::join(alloc, &mut self.lanes, order, place)?;
         let status = Status::Waits;
         self.parts.push_back_reserved(OrderedPart {
             seat,
             order,
             status,
         });
-        self.spots.push_back_reserved(spot);
         Ok(())
     }
 
@@ -120,9 +121,10 @@ impl OrderedParts {
     {
         let last = self.parts.len() - 1;
         let order = self.parts[last].order;
-        lanes::leave_last(&mut self.lanes, order);
+        let place = self.first + last as u64;
+        lanes::change(&mut self.lanes, order, place, Status::Unsent);
+        leave_bars(&mut self.bars, place, Status::Unsent);
         self.parts.truncate(last);
-        self.spots.truncate(last);
     }
 
     /// Gives the part at a place this status.
@@ -133,8 +135,8 @@ impl OrderedParts {
     {
         let index = (place - self.first) as usize;
         let order = self.parts[index].order;
-        let spot = self.spots[index];
-        lanes::change(&mut self.lanes, order, spot, status);
+        lanes::change(&mut self.lanes, order, place, status);
+        leave_bars(&mut self.bars, place, status);
         mark(&mut self.parts, index, status);
     }
 
@@ -143,10 +145,7 @@ impl OrderedParts {
         requires { IsFirstOver self.old }
         ensures { self.new ≡ without_first self.old }
     {
-        let order = self.parts[0].order;
-        lanes::forget_first(&mut self.lanes, order);
         self.parts.pop_front();
-        self.spots.pop_front();
         self.first += 1;
     }
 
@@ -162,9 +161,9 @@ impl OrderedParts {
         let Some(next) = lanes::askable(&self.lanes, slot) else {
             return None;
         };
-        let seat = self.parts[(next.number - self.first) as usize].seat;
+        let seat = self.parts[(next.place - self.first) as usize].seat;
         Some(Askable {
-            place: next.number,
+            place: next.place,
             seat,
             link: next.link,
         })
@@ -177,14 +176,44 @@ impl OrderedParts {
         ensures seat { IfSome result (λ overtaken. NamesWaiting overtaken.place overtaken.seat self.now) }
         ensures none { IfNone result ((place : ℕ) → IsOvertaken place self.now → IsOf slot place self.now → ⊥) }
     {
-        let Some(first) = lanes::overtaken(&self.lanes, slot) else {
+        let Some(place) = lanes::overtaken(&self.lanes, slot) else {
             return None;
         };
-        let seat = self.parts[(first.number - self.first) as usize].seat;
-        Some(Overtaken {
-            place: first.number,
-            seat,
-        })
+        let seat = self.parts[(place - self.first) as usize].seat;
+        Some(Overtaken { place, seat })
+    }
+
+    /// The first part without a slot that is not done.
+    pub(crate) fn first_bar(&self) -> Option<OrderedPart>
+        ensures bar { IfSome result (λ bar. IsFirstBar bar self.now) }
+        ensures none { IfNone result ((place : ℕ) → IsBar place self.now → ⊥) }
+        ensures sorted { IsSorted self.now }
+    {
+        let Some(place) = self.bars.front() else {
+            return None;
+        };
+        Some(self.parts[(*place - self.first) as usize])
+    }
+}
+
+/// Adds a part without a slot to the bars.
+fn enter_bars(bars: &mut VecDeque<u64>, order: PartOrder, place: u64) -> Result<(), AllocError>
+    ensures entered { OnOk result (bars.new.items ≡ entered order place bars.old.items) }
+    ensures err { OnErr result (bars.new.items ≡ bars.old.items) }
+{
+    if let PartOrder::Whole = order {
+        bars.push_back(place)?;
+    }
+    Ok(())
+}
+
+/// Takes a part that is done now from the bars, if it is one.
+fn leave_bars(bars: &mut VecDeque<u64>, place: u64, status: Status)
+    requires { Ascends bars.old.items }
+    ensures { bars.new.items ≡ left place status bars.old.items }
+{
+    if status.is_done() {
+        take_place(bars, place);
     }
 }
 

@@ -1,94 +1,89 @@
--- A lane: the parts of one caller on one slot, in the order of the calls.
-use Rattle.std.specs.Prelude.{◌≡◌, ◌+◌, ◌-◌, ◌<◌, ◌++◌, ℕ, List, [], ◌∷◌, length, drop, take, Option, None, Some}
-use Rattle.std.specs.Option.{option_map}
-use Rattle.session_core.specs.Places.{item_at, changed}
-use Rattle.session_core.specs.Order.{OnLink}
-use Rattle.session_core.specs.declared.lane.LanePart.{LanePart}
-use Rattle.session_core.specs.declared.lane.LaneAskable.{LaneAskable}
+-- The open parts of one caller on one slot, by their places among all parts of the caller.
+use Rattle.std.specs.Prelude.{◌≡◌, ◌+◌, ◌^◌, ◌<◌, ◌≤◌, ◌++◌, ◌⊎◌, ◌==◌, ltb, max, ℕ, true, if◌then◌else◌, List, [], ◌∷◌, Option, None, Some}
 use Rattle.session_core.specs.declared.ordered_part.Status.{Status}
 use Rattle.session_core.specs.declared.ordered_part.Status.TheVariants.{Waits, Asked, Settled, Unsent}
 
--- The place of a part is its number since the lane began.
+-- ---- places
+
+abbrev pub In : ℕ → List ℕ → Type 0
+In q [] = ⊥
+In q (x ∷ xs) = (x ≡ q) ⊎ In q xs
+
+abbrev pub Ascends : List ℕ → Type 0
+Ascends [] = Unit {0}
+Ascends (x ∷ xs) = ((q : ℕ) → In q xs → x < q) × Ascends xs
+
+abbrev pub without : ℕ → List ℕ → List ℕ
+without place [] = []
+without place (x ∷ xs) = if x == place then without place xs else x ∷ without place xs
+
+-- with this place before the first higher one
+abbrev pub with_place : ℕ → List ℕ → List ℕ
+with_place place [] = place ∷ []
+with_place place (x ∷ xs) = if ltb x place then x ∷ with_place place xs else place ∷ x ∷ xs
+
+-- ---- lanes
+
 pub record Lane : Type 0 where
-  -- how many parts were forgotten: the first part that is left has this place
-  pub first : ℕ
-  pub parts : List LanePart
+  -- the places of the parts that wait
+  pub waiting : List ℕ
+  -- and of those on their way
+  pub asked : List ℕ
+  -- the place after the last settled part, or 0
+  pub settled_end : ℕ
+  -- the link of those on their way
+  pub link : ℕ
 
-abbrev pub no_parts : Lane
-no_parts = record { first = 0; parts = [] }
+abbrev pub no_lane : Lane
+no_lane = record { waiting = []; asked = []; settled_end = 0; link = 0 }
 
--- the part at a place, if it joined and was not forgotten
-abbrev pub part_in : ℕ → Lane → Option LanePart
-part_in place lane = item_at place lane.first lane.parts
-
-unfoldable pub status_at : ℕ → Lane → Option Status
-status_at place lane = option_map (λ part. part.status) (part_in place lane)
-
--- An earlier part lets a later one be asked on this link: it is done, or on its way on the same link.
-abbrev pub LetsPass : ℕ → Status → Type 0
-LetsPass link Waits = ⊥
-LetsPass link (Asked other) = other ≡ link
-LetsPass link Settled = Unit {0}
-LetsPass link Unsent = Unit {0}
-
--- A later part lets an earlier one be asked: it is neither on its way nor settled.
-abbrev pub LetsBack : Status → Type 0
-LetsBack Waits = Unit {0}
-LetsBack (Asked link) = ⊥
-LetsBack Settled = ⊥
-LetsBack Unsent = Unit {0}
-
--- When the part at this place may be asked on this link.
---
--- `Asked 1, Waits, Waits`: place 1 may be asked on link 1 and on no other link, and place 2 on none.
--- `Waits, Asked 1`, as place 0 was refused: place 0 waits until place 1 is answered.
--- `Waits, Waits`, as place 1 was refused too: place 0 may be asked on any link.
--- `Waits, Settled`, as place 1 was run: place 0 is overtaken.
-pub record MayAsk (place link : ℕ) (lane : Lane) : Type 0 where
-  pub waits : status_at place lane ≡ Some Waits
-  pub earlier_pass : (earlier : ℕ) (status : Status) → earlier < place
-      → status_at earlier lane ≡ Some status → LetsPass link status
-  pub later_back : (later : ℕ) (status : Status) → place < later
-      → status_at later lane ≡ Some status → LetsBack status
-
--- The part at this place waits, and a later one is settled: it is never asked again.
-pub record IsOvertaken (place : ℕ) (lane : Lane) : Type 0 where
-  pub waits : status_at place lane ≡ Some Waits
-  pub later : ℕ
-  pub is_later : place < later
-  pub settled : status_at later lane ≡ Some Settled
-
--- The part at this place is on its way.
-abbrev pub IsOnItsWay : ℕ → Lane → Type 0
-IsOnItsWay place lane = (link : ℕ) × (status_at place lane ≡ Some (Asked link))
-
--- This answer offers the place on the link.
-abbrev pub Offers : Option LaneAskable → ℕ → ℕ → Type 0
-Offers None place link = ⊥
-Offers (Some askable) place link = (askable.place ≡ place) × OnLink askable.link link
-
--- the parts with this status for the part of this index
-abbrev pub marked : ℕ → Status → List LanePart → List LanePart
-marked index status parts = changed (λ part. record part { status = status }) index parts
-
--- the lane with this status for the part at this place
-abbrev pub with_status : ℕ → Status → Lane → Lane
-with_status place status lane = record {
-  first = lane.first;
-  parts = marked (place - lane.first) status lane.parts;
-}
-
--- the lane with one more part, which waits
+-- with one more part, which waits
 abbrev pub joined : ℕ → Lane → Lane
-joined number lane = record {
-  first = lane.first;
-  parts = lane.parts ++ record { number = number; status = Waits } ∷ [];
-}
+joined place lane = record lane { waiting = lane.waiting ++ place ∷ [] }
 
--- the lane without its first parts, so many
-abbrev pub forgotten : ℕ → Lane → Lane
-forgotten count lane = record { first = lane.first + count; parts = drop count lane.parts }
+-- where the part at this place has this status now
+abbrev pub with_status : ℕ → Status → Lane → Lane
+with_status place Waits lane = record lane { waiting = with_place place lane.waiting; asked = without place lane.asked }
+with_status place (Asked link) lane =
+    record { waiting = without place lane.waiting; asked = lane.asked ++ place ∷ []; settled_end = lane.settled_end; link = link }
+with_status place Settled lane =
+    record lane { asked = without place lane.asked; settled_end = max lane.settled_end (place + 1) }
+with_status place Unsent lane = record lane { waiting = without place lane.waiting }
 
--- the lane without its last part
-abbrev pub without_last : Lane → Lane
-without_last lane = record { first = lane.first; parts = take (length lane.parts - 1) lane.parts }
+-- when the part at this place may get this status
+abbrev pub MayBecome : ℕ → Status → Lane → Type 0
+MayBecome place Waits lane = In place lane.asked × (In place lane.waiting → ⊥)
+MayBecome place (Asked link) lane = In place lane.waiting × ((q : ℕ) → In q lane.asked → q < place)
+MayBecome place Settled lane = In place lane.asked × (place + 1 < 2 ^ 64)
+MayBecome place Unsent lane = In place lane.waiting
+
+-- The part at this place is the first that waits, and none behind it is on its way or settled.
+pub record IsNext (place : ℕ) (lane : Lane) : Type 0 where
+  pub waits : In place lane.waiting
+  pub first : (q : ℕ) → In q lane.waiting → place ≤ q
+  pub past : lane.settled_end ≤ place
+  pub behind : (q : ℕ) → In q lane.asked → q < place
+
+-- the only link on which it may be asked
+abbrev pub IsLinkOf : Option ℕ → Lane → Type 0
+IsLinkOf None lane = (q : ℕ) → In q lane.asked → ⊥
+IsLinkOf (Some link) lane = (link ≡ lane.link) × ((q : ℕ) × In q lane.asked)
+
+-- ---- lanes of parts
+
+abbrev pub IsOpen : Option Status → Type 0
+IsOpen None = ⊥
+IsOpen (Some Waits) = Unit {0}
+IsOpen (Some (Asked link)) = Unit {0}
+IsOpen (Some Settled) = ⊥
+IsOpen (Some Unsent) = ⊥
+
+-- The lane of the parts that have these statuses at their places, of which those from `first` on are left.
+pub record IsLaneOf (first : ℕ) (statuses : ℕ → Option Status) (lane : Lane) : Type 0 where
+  pub waiting_in : (q : ℕ) → In q lane.waiting → statuses q ≡ Some Waits
+  pub waiting_there : (q : ℕ) → statuses q ≡ Some Waits → In q lane.waiting
+  pub asked_in : (q : ℕ) → In q lane.asked → statuses q ≡ Some (Asked lane.link)
+  pub asked_there : (q link : ℕ) → statuses q ≡ Some (Asked link) → In q lane.asked
+  -- what is settled behind an open part, the end counts
+  pub settled : (q at : ℕ) → q < at → IsOpen (statuses q) → statuses at ≡ Some Settled → at < lane.settled_end
+  pub last : (at : ℕ) → at + 1 ≡ lane.settled_end → first ≤ at → statuses at ≡ Some Settled

@@ -1,6 +1,5 @@
--- How the parts of a caller and the lanes of its slots belong together.
-use Rattle.std.specs.Prelude.{◌≡◌, ◌+◌, ◌-◌, ◌^◌, ◌<◌, ◌≤◌, ◌++◌, ◌⊎◌, ℕ, true, false, List, [], ◌∷◌, length, take, drop, Option, Some, slice_get}
-use Rattle.std.proofs.Common.{get_or}
+-- How the parts of a caller, the lanes of its slots and its bars belong together.
+use Rattle.std.specs.Prelude.{◌≡◌, ◌+◌, ◌-◌, ◌^◌, ◌<◌, ◌≤◌, ◌++◌, ◌==◌, ◌⊎◌, ℕ, true, false, if◌then◌else◌, List, [], ◌∷◌, length, take, drop, Option, None, Some, slice_get}
 use Rattle.std.specs.Option.{unwrap_or}
 use Rattle.std.specs.Ordering.{nat_cmp}
 use Rattle.std.specs.BTreeMap.{BTreeMap, get}
@@ -10,35 +9,27 @@ use Rattle.session_core.specs.declared.ordered_part.OrderedPart.{OrderedPart}
 use Rattle.session_core.specs.declared.ordered_part.Seat.{Seat}
 use Rattle.session_core.specs.declared.ordered_part.Status.{Status}
 use Rattle.session_core.specs.declared.ordered_part.Status.TheVariants.{Waits, Asked, Settled, Unsent}
-use Rattle.session_core.specs.declared.lane.LanePart.{LanePart}
 use Rattle.session_core.specs.Inner.Lane as lane
+use Rattle.session_core.specs.Inner.Lane.{In, Ascends, IsLaneOf}
 use Rattle.session_core.specs.Part.{have_slot}
 use Rattle.session_core.specs.Order.{Order, ordered_at, MayAskAmong, IsWaiting, IsOnItsWay, is_done, is_effective}
 
--- the lane of a slot, which has no parts if the map has none
+-- the lane of a slot, which has no open parts if the map has none
 abbrev pub lane_of : ℕ → BTreeMap ℕ lane.Lane → lane.Lane
-lane_of slot lanes = unwrap_or (get nat_cmp lanes slot) lane.no_parts
+lane_of slot lanes = unwrap_or (get nat_cmp lanes slot) lane.no_lane
 
-unfoldable pub in_lane : ℕ → ℕ → BTreeMap ℕ lane.Lane → Option LanePart
-in_lane slot at lanes = lane.part_in at (lane_of slot lanes)
-
-abbrev pub lane_end : ℕ → BTreeMap ℕ lane.Lane → ℕ
-lane_end slot lanes = (lane_of slot lanes).first + length (lane_of slot lanes).parts
-
--- each lane has the same parts
+-- each lane is the same
 abbrev pub AreSame : BTreeMap ℕ lane.Lane → BTreeMap ℕ lane.Lane → Type 0
-AreSame old new = (slot at : ℕ) → in_lane slot at new ≡ in_lane slot at old
+AreSame old new = (slot : ℕ) → lane_of slot new ≡ lane_of slot old
 
-abbrev pub IsFirstDone : lane.Lane → Type 0
-IsFirstDone l = (status : Status) × (lane.status_at l.first l ≡ Some status) × (is_done status ≡ true)
+abbrev pub IsEmpty : lane.Lane → Type 0
+IsEmpty l = (l.waiting ≡ []) × (l.asked ≡ [])
 
-abbrev pub IsLastWaiting : lane.Lane → Type 0
-IsLastWaiting l = (0 < length l.parts) × (lane.status_at (l.first + (length l.parts - 1)) l ≡ Some Waits)
-
--- The lane of this slot, if the order has one, took a step. The others did not.
+-- The lane of this slot, if the order has one, took a step, and is gone if it is empty. The others did not.
 pub record Stepped (order : PartOrder) (step : lane.Lane → lane.Lane) (old new : BTreeMap ℕ lane.Lane) : Type 0 where
-  pub here : (slot at : ℕ) → order ≡ OfSlot slot → in_lane slot at new ≡ lane.part_in at (step (lane_of slot old))
-  pub others : (slot at : ℕ) → (order ≡ OfSlot slot → ⊥) → in_lane slot at new ≡ in_lane slot at old
+  pub here : (slot : ℕ) → order ≡ OfSlot slot → (lane_of slot new ≡ step (lane_of slot old))
+      ⊎ ((lane_of slot new ≡ lane.no_lane) × IsEmpty (step (lane_of slot old)))
+  pub others : (slot : ℕ) → (order ≡ OfSlot slot → ⊥) → lane_of slot new ≡ lane_of slot old
 
 -- The parts stand in the order of their calls. Parts of one call have different slots, and none is free.
 pub record IsSorted (order : Order) : Type 0 where
@@ -49,22 +40,46 @@ pub record IsSorted (order : Order) : Type 0 where
   pub no_free : (at : ℕ) (p : OrderedPart) → ordered_at at order ≡ Some p → p.order ≡ Free → ⊥
   pub fits : order.first + length order.parts < 2 ^ 64
 
--- where the part of a place stands in its lane
-abbrev pub spot : Order → List ℕ → ℕ → ℕ
-spot order spots place = get_or spots (place - order.first) 0
+-- the status of a part of this slot
+abbrev pub status_in : ℕ → PartOrder → Status → Option Status
+status_in slot (OfSlot other) status = if slot == other then Some status else None
+status_in slot Whole status = None
+status_in slot Free status = None
 
-pub record IsTied (order : Order) (spots : List ℕ) (lanes : BTreeMap ℕ lane.Lane) : Type 0 where
+abbrev pub seen : ℕ → Option OrderedPart → Option Status
+seen slot None = None
+seen slot (Some p) = status_in slot p.order p.status
+
+abbrev pub statuses : ℕ → Order → ℕ → Option Status
+statuses slot order place = seen slot (ordered_at place order)
+
+-- The part at a place has no slot and is not done: no part of a later call is asked.
+abbrev pub IsBar : ℕ → Order → Type 0
+IsBar place order = (p : OrderedPart) × (ordered_at place order ≡ Some p) × (p.order ≡ Whole) × (is_done p.status ≡ false)
+
+pub record IsFirstBar (bar : OrderedPart) (order : Order) : Type 0 where
+  pub place : ℕ
+  pub there : ordered_at place order ≡ Some bar
+  pub whole : bar.order ≡ Whole
+  pub not_done : is_done bar.status ≡ false
+  pub first : (at : ℕ) → IsBar at order → place ≤ at
+
+pub record IsTied (order : Order) (lanes : BTreeMap ℕ lane.Lane) (bars : List ℕ) : Type 0 where
   pub sorted : IsSorted order
-  pub spots_length : length spots ≡ length order.parts
-  -- a part of a slot stands in the lane of the slot
-  pub stands : (place slot : ℕ) (p : OrderedPart) → ordered_at place order ≡ Some p → p.order ≡ OfSlot slot
-      → in_lane slot (spot order spots place) lanes ≡ Some (record { number = place; status = p.status })
-  -- and no other part does
-  pub comes : (slot at : ℕ) (x : LanePart) → in_lane slot at lanes ≡ Some x
-      → (p : OrderedPart) × (ordered_at x.number order ≡ Some p) × (p.order ≡ OfSlot slot)
-      × (spot order spots x.number ≡ at)
-  pub rising : (slot at after : ℕ) (x y : LanePart) → at < after → in_lane slot at lanes ≡ Some x
-      → in_lane slot after lanes ≡ Some y → x.number < y.number
+  pub lane : (slot : ℕ) → IsLaneOf order.first (statuses slot order) (lane_of slot lanes)
+  pub bar_in : (q : ℕ) → In q bars → IsBar q order
+  pub bar_there : (q : ℕ) → IsBar q order → In q bars
+  pub ascends : Ascends bars
+
+-- the bars after a part joined
+abbrev pub entered : PartOrder → ℕ → List ℕ → List ℕ
+entered (OfSlot slot) place bars = bars
+entered Whole place bars = bars ++ place ∷ []
+entered Free place bars = bars
+
+-- and after one got this status
+abbrev pub left : ℕ → Status → List ℕ → List ℕ
+left place status bars = if is_done status then lane.without place bars else bars
 
 -- when the part at a place may get a status
 abbrev pub MayChange : ℕ → Status → Order → Type 0
@@ -102,10 +117,6 @@ without_last order = record { first = order.first; parts = take (length order.pa
 abbrev pub first_parts : ℕ → Order → Order
 first_parts count order = record { first = order.first; parts = take count order.parts }
 
--- The part at a place has no slot and is not done: no part of a later call is asked.
-abbrev pub IsBar : ℕ → Order → Type 0
-IsBar place order = (p : OrderedPart) × (ordered_at place order ≡ Some p) × (p.order ≡ Whole) × (is_done p.status ≡ false)
-
 -- A part without a slot took effect only when all of earlier calls were done, and one of a later call only
 -- when it was.
 abbrev pub IsAlone : Order → Type 0
@@ -118,11 +129,7 @@ pub record AreLastOpen (count : ℕ) (order : Order) : Type 0 where
   pub within : count ≤ length order.parts
   pub wait : (i : ℕ) (p : OrderedPart) → length order.parts ≤ i + count → slice_get order.parts i ≡ Some p → p.status ≡ Waits
 
-pub record IsGateKept (order : Order) (barrier : ℕ) : Type 0 where
+pub record IsGateKept (order : Order) : Type 0 where
   -- the first part is not done
   pub front : IsFirstOver order → ⊥
-  -- the barrier is the first bar
-  pub passed : (place : ℕ) → place < barrier → IsBar place order → ⊥
-  pub bars : barrier < order.first + length order.parts → IsBar barrier order
-  pub within : barrier ≤ order.first + length order.parts
   pub alone : IsAlone order

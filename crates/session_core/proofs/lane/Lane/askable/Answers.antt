@@ -1,87 +1,53 @@
-use Rattle.std.proofs.Common.{◌≡◌, ◌<◌, ◌^◌, ◌-◌, ◌⊎◌, inl, inr, ℕ, Option, None, Some, sym, subst, ◌∙◌, arith}
-use Rattle.session_core.specs.declared.lane.LanePart.{LanePart}
-use Rattle.session_core.specs.declared.ordered_part.Status.TheVariants.{Waits}
-use Rattle.session_core.specs.Order.{OnLink}
-use Rattle.session_core.specs.Inner.Lane.{MayAsk, part_in}
-use Rattle.session_core.proofs.LanePlaces.{within, part_read}
-use Rattle.session_core.proofs.LaneKeeping.{tells, may_first, allowed}
+use Rattle.std.proofs.Common.{◌≡◌, ◌<◌, ◌≤◌, ◌-◌, ℕ, List, length, get_or, Some, sym, ap, ◌∙◌, subst, refl, arith}
+use Rattle.std.specs.VecDeque.{deque_len}
+use Rattle.session_core.specs.Inner.Lane.{In, Ascends, IsNext, IsLinkOf}
+use Rattle.session_core.proofs.Ascending.{read_in, least, greatest, in_some}
 use Rattle.session_core.proofs.lane.Lane.askable.Goals as goal
-use Rattle.session_core.proofs.lane.Lane.askable.Goals.{then-place-via-then-place, then-place-via-else-place+then-place-self, then-place-via-else-place+else-place-self+then-place-open, then-open-eq0, else-open-eq0}
 
-pub returns-then-place-clause-asks : goal.returns-then-place-clause-asks
-returns-then-place-clause-asks c = λ place link may.
+next : (waiting asked : List ℕ) (end link x : ℕ) → Ascends waiting → 0 < length waiting → x ≡ get_or waiting 0 x → end ≤ x → ((q : ℕ) → In q asked → q < x)
+    → IsNext x (record { waiting = waiting; asked = asked; settled_end = end; link = link })
+next waiting asked end link x a some e past behind = record {
+  waits = read_in waiting 0 x some e;
+  first = λ q h. least waiting x q a e h;
+  past = past;
+  behind = behind;
+}
+
+pub returns-then-place-self-clause-none : goal.returns-then-place-self-clause-none
+returns-then-place-self-clause-none c = λ place other.
     let s = c.self.inside in
-    let k = c.self.invariant in
-    let t = tells (record { first = s.first; parts = s.parts.items }) s.base s.settled_end s.link s.tree c.root-open.result k c.root-open.ensures in
-    let a = allowed (record { first = s.first; parts = s.parts.items }) s.base s.settled_end s.link c.root-open.result.first_waiting c.root-open.result.on_way_end place link s.tree k t
-    (subst (MayAsk place link) (sym c.self.view_is) may) in
-    elim c.then-place.branch [
-      | then-place-via-then-place w ↦ omega (arith, w.if-place.true, a.is_first, a.is_place)
-      | then-place-via-else-place+then-place-self w ↦ omega (arith, w.if-place-self.true, a.is_first, a.none_settled)
-      | then-place-via-else-place+else-place-self+then-place-open w ↦ omega (arith, w.if-place-open.true, a.is_first, a.none_on_way)
-    ]
+    let n = subst (IsNext place) (sym c.self.view_is) other in
+    let le = n.first c.in_ok-place.field-0.now (read_in s.waiting.items 0 c.in_ok-place.field-0.now c.in_ok-place.ensures.item.3.0 c.in_ok-place.ensures.lookup) in
+    omega (arith, le, n.past, c.if-place-self.true)
 
-pub overflow_sub-place : goal.overflow_sub-place
-overflow_sub-place c =
+pub returns-in-Some-clause-none : goal.returns-in-Some-clause-none
+returns-in-Some-clause-none c = λ place other.
     let s = c.self.inside in
-    let k = c.self.invariant in
-    let t = tells (record { first = s.first; parts = s.parts.items }) s.base s.settled_end s.link s.tree c.root-open.result k c.root-open.ensures in
-    let is : c.root-open.result.first_waiting < 2 ^ 64 - 1 = omega (arith, c.if-place.false, t.bound) in
-    (within c.root-open.result.first_waiting (record { first = s.first; parts = s.parts.items }) Waits (t.waits is)).0
+    let n = subst (IsNext place) (sym c.self.view_is) other in
+    let le = n.first c.in_ok-place.field-0.now (read_in s.waiting.items 0 c.in_ok-place.field-0.now c.in_ok-place.ensures.item.3.0 c.in_ok-place.ensures.lookup) in
+    let is : deque_len s.asked - 1 ≡ length s.asked.items - 1 = omega arith in
+    let inside : length s.asked.items - 1 < length s.asked.items = omega (arith, c.in-Some.ensures.item.3.0) in
+    let lt = n.behind c.in-Some.last.now (read_in s.asked.items (length s.asked.items - 1) c.in-Some.last.now inside (c.in-Some.ensures.lookup ∙ ap (λ i. get_or s.asked.items i c.in-Some.last.now) is)) in
+    omega (arith, le, lt, c.if-place-last.true)
 
-pub index-requires : goal.index-requires
-index-requires c =
+pub returns-in-Some-2-clause-next : goal.returns-in-Some-2-clause-next
+returns-in-Some-2-clause-next c =
     let s = c.self.inside in
-    let k = c.self.invariant in
-    let t = tells (record { first = s.first; parts = s.parts.items }) s.base s.settled_end s.link s.tree c.root-open.result k c.root-open.ensures in
-    let is : c.root-open.result.first_waiting < 2 ^ 64 - 1 = omega (arith, c.if-place.false, t.bound) in
-    let w = within c.root-open.result.first_waiting (record { first = s.first; parts = s.parts.items }) Waits (t.waits is) in
-    omega (arith, w.0, w.1)
+    let is : deque_len s.asked - 1 ≡ length s.asked.items - 1 = omega arith in
+    subst (IsNext c.in_ok-place.field-0.now) c.self.view_is
+    (next s.waiting.items s.asked.items s.settled_end s.link c.in_ok-place.field-0.now c.self.invariant.0 c.in_ok-place.ensures.item.3.0 c.in_ok-place.ensures.lookup c.if-place-self.false
+    (λ q h. let le = greatest s.asked.items c.in-Some.last.now q c.self.invariant.1 (c.in-Some.ensures.lookup ∙ ap (λ i. get_or s.asked.items i c.in-Some.last.now) is) h in omega (arith, le, c.if-place-last.false)))
 
-way : (end on link : ℕ) (only : Option ℕ) → OnLink only link → ((end ≡ 0) × (only ≡ None)) ⊎ (only ≡ Some on) → (end ≡ 0) ⊎ (on ≡ link)
-way end on link None h e = elim e [ inl z ↦ inl z.0 | inr z ↦ absurd (cc) ]
-way end on link (Some l) h e = elim e [ inl z ↦ inl z.0 | inr z ↦ let q : l ≡ on = cc in inr (sym q ∙ h) ]
-
-way_back : (end on link : ℕ) (only : Option ℕ) → (end ≡ 0) ⊎ (on ≡ link) → ((only ≡ None)) ⊎ ((only ≡ Some on) × (end ≡ 0 → ⊥)) → OnLink only link
-way_back end on link only h e = elim e [
-  | inl z ↦ subst (λ o. OnLink o link) (sym z) tt
-  | inr z ↦ subst (λ o. OnLink o link) (sym z.0) (elim h [ inl q ↦ absurd (z.1 q) | inr q ↦ q ])
-]
-
-pub returns-clause-may : goal.returns-clause-may
-returns-clause-may c = λ place link offers.
+pub returns-in-Some-2-clause-link : goal.returns-in-Some-2-clause-link
+returns-in-Some-2-clause-link c =
     let s = c.self.inside in
-    let k = c.self.invariant in
-    let t = tells (record { first = s.first; parts = s.parts.items }) s.base s.settled_end s.link s.tree c.root-open.result k c.root-open.ensures in
-    let is : c.root-open.result.first_waiting < 2 ^ 64 - 1 = omega (arith, c.if-place.false, t.bound) in
-    let only : ((c.root-open.result.on_way_end ≡ 0) × (c.if-open-eq0.link ≡ None)) ⊎ (c.if-open-eq0.link ≡ Some s.link) = elim c.if-open-eq0.branch [
-      | then-open-eq0 w ↦ inl (w.if-open-eq0.true, w.link-is)
-      | else-open-eq0 w ↦ inr w.link-is
-    ] in
-    subst (λ p. MayAsk p link c.args.self.now) offers.0
-    (subst (MayAsk c.root-open.result.first_waiting link) c.self.view_is
-    (may_first (record { first = s.first; parts = s.parts.items }) s.base s.settled_end s.link c.root-open.result.first_waiting c.root-open.result.on_way_end link s.tree k t is c.if-place-self.false c.if-place-open.false
-    (way c.root-open.result.on_way_end s.link link c.if-open-eq0.link offers.1 only)))
+    let is : deque_len s.asked - 1 ≡ length s.asked.items - 1 = omega arith in
+    let inside : length s.asked.items - 1 < length s.asked.items = omega (arith, c.in-Some.ensures.item.3.0) in
+    subst (IsLinkOf (Some s.link)) c.self.view_is (refl, (c.in-Some.last.now, read_in s.asked.items (length s.asked.items - 1) c.in-Some.last.now inside (c.in-Some.ensures.lookup ∙ ap (λ i. get_or s.asked.items i c.in-Some.last.now) is)))
 
-pub returns-clause-asks : goal.returns-clause-asks
-returns-clause-asks c = λ place link may.
+pub returns-in-None-clause-next : goal.returns-in-None-clause-next
+returns-in-None-clause-next c =
     let s = c.self.inside in
-    let k = c.self.invariant in
-    let t = tells (record { first = s.first; parts = s.parts.items }) s.base s.settled_end s.link s.tree c.root-open.result k c.root-open.ensures in
-    let a = allowed (record { first = s.first; parts = s.parts.items }) s.base s.settled_end s.link c.root-open.result.first_waiting c.root-open.result.on_way_end place link s.tree k t
-    (subst (MayAsk place link) (sym c.self.view_is) may) in
-    let only : (c.if-open-eq0.link ≡ None) ⊎ ((c.if-open-eq0.link ≡ Some s.link) × (c.root-open.result.on_way_end ≡ 0 → ⊥)) = elim c.if-open-eq0.branch [
-      | then-open-eq0 w ↦ inl w.link-is
-      | else-open-eq0 w ↦ inr (w.link-is, w.if-open-eq0.false)
-    ] in
-    (a.is_first, way_back c.root-open.result.on_way_end s.link link c.if-open-eq0.link a.same_link only)
-
-pub returns-clause-number : goal.returns-clause-number
-returns-clause-number c =
-    let s = c.self.inside in
-    let k = c.self.invariant in
-    let t = tells (record { first = s.first; parts = s.parts.items }) s.base s.settled_end s.link s.tree c.root-open.result k c.root-open.ensures in
-    let is : c.root-open.result.first_waiting < 2 ^ 64 - 1 = omega (arith, c.if-place.false, t.bound) in
-    let seen : LanePart = c.index.result.now in
-    subst (λ lane. part_in c.root-open.result.first_waiting lane ≡ Some (record { number = seen.number; status = Waits })) c.self.view_is
-    (part_read c.root-open.result.first_waiting (record { first = s.first; parts = s.parts.items }) Waits seen (t.waits is) c.index.ensures)
+    subst (IsNext c.in_ok-place.field-0.now) c.self.view_is
+    (next s.waiting.items s.asked.items s.settled_end s.link c.in_ok-place.field-0.now c.self.invariant.0 c.in_ok-place.ensures.item.3.0 c.in_ok-place.ensures.lookup c.if-place-self.false
+    (λ q h. let some = in_some q s.asked.items h in absurd (omega (arith, some, c.in-None.ensures.item.3))))

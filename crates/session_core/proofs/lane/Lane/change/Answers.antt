@@ -1,66 +1,63 @@
-use Rattle.std.proofs.Common.{inl, inr, sym, subst, arith}
-use Rattle.session_core.specs.declared.ordered_part.Status.TheVariants.{Asked, Settled}
-use Rattle.session_core.specs.Inner.Kept.{MayBecome}
-use Rattle.session_core.proofs.LaneKeeping.{writable, kept_as_written, became_asked, became_settled, became_waits, became_unsent, Became}
+use Rattle.std.proofs.Common.{◌≡◌, ◌+◌, ◌<◌, ◌≤◌, ◌++◌, ℕ, List, [], ◌∷◌, length, length-append, sym, subst, ap, ◌∙◌, arith}
+use Rattle.session_core.specs.declared.ordered_part.Status.{Status}
+use Rattle.session_core.specs.declared.ordered_part.Status.TheVariants.{Waits, Asked, Settled, Unsent}
+use Rattle.session_core.specs.Inner.Lane.{In, Lane, Ascends, MayBecome}
+use Rattle.session_core.proofs.Ascending.{ascends_pushed, ascends_put, ascends_without, length-put, length-without, length-without_le}
 use Rattle.session_core.proofs.lane.Lane.change.Goals as goal
 
-pub overflow_sub-place : goal.overflow_sub-place
-overflow_sub-place c =
-    let s = c.self.inside in
-    (writable (record { first = s.first; parts = s.parts.items }) s.base s.settled_end s.link c.args.place c.args.status s.tree c.self.invariant (subst (MayBecome c.args.place c.args.status) (sym c.self.view_is) c.requires)).first
-
-pub mark-requires : goal.mark-requires
-mark-requires c =
-    let s = c.self.inside in
-    (writable (record { first = s.first; parts = s.parts.items }) s.base s.settled_end s.link c.args.place c.args.status s.tree c.self.invariant (subst (MayBecome c.args.place c.args.status) (sym c.self.view_is) c.requires)).index
-
-pub overflow_sub-place-2 : goal.overflow_sub-place-2
-overflow_sub-place-2 c =
-    let s = c.self.inside in
-    (writable (record { first = s.first; parts = s.parts.items }) s.base s.settled_end s.link c.args.place c.args.status s.tree c.self.invariant (subst (MayBecome c.args.place c.args.status) (sym c.self.view_is) c.requires)).based
-
-pub summary_at-requires : goal.summary_at-requires
-summary_at-requires c =
-    let s = c.self.inside in
-    (writable (record { first = s.first; parts = s.parts.items }) s.base s.settled_end s.link c.args.place c.args.status s.tree c.self.invariant (subst (MayBecome c.args.place c.args.status) (sym c.self.view_is) c.requires)).fits
-
-pub set-requires : goal.set-requires
-set-requires c =
-    let s = c.self.inside in
-    (writable (record { first = s.first; parts = s.parts.items }) s.base s.settled_end s.link c.args.place c.args.status s.tree c.self.invariant (subst (MayBecome c.args.place c.args.status) (sym c.self.view_is) c.requires)).leaf
-
-pub overflow_add-place : goal.overflow_add-place
-overflow_add-place c =
-    let s = c.self.inside in
-    let w = writable (record { first = s.first; parts = s.parts.items }) s.base s.settled_end s.link c.args.place c.args.status s.tree c.self.invariant (subst (MayBecome c.args.place c.args.status) (sym c.self.view_is) c.requires) in
-    omega (arith, w.fits)
+may : (place : ℕ) (given status : Status) (seen own : Lane) → given ≡ status → seen ≡ own → MayBecome place given own → MayBecome place status seen
+may place given status seen own is view h = subst (λ (l : Lane). MayBecome place status l) (sym view) (subst (λ (s : Status). MayBecome place s own) is h)
 
 pub invariant_of-self : goal.invariant_of-self
 invariant_of-self c =
     let s = c.self.inside in
-    let may : MayBecome c.args.place c.args.status (record { first = s.first; parts = s.parts.items }) = subst (MayBecome c.args.place c.args.status) (sym c.self.view_is) c.requires in
-    let asked : MayBecome c.args.place (Asked c.in-Asked.link) (record { first = s.first; parts = s.parts.items }) = subst (λ t. MayBecome c.args.place t (record { first = s.first; parts = s.parts.items })) c.in-Asked.is may in
-    kept_as_written (record { first = s.first; parts = s.parts.items }) s.base s.settled_end c.in-Asked.link c.args.place c.args.status s.tree c.set.new.self c.mark.new.parts.items c.summary_at.result c.mark.ensures c.summary_at.ensures c.set.ensures
-    (subst (λ t. Became (record { first = s.first; parts = s.parts.items }) s.base s.tree c.args.place t s.settled_end c.in-Asked.link) (sym c.in-Asked.is)
-    (became_asked (record { first = s.first; parts = s.parts.items }) s.base s.settled_end s.link c.args.place c.in-Asked.link s.tree c.self.invariant asked))
+    let i = c.self.invariant in
+    let m : MayBecome c.args.place Waits (record { waiting = s.waiting.items; asked = s.asked.items; settled_end = s.settled_end; link = s.link }) =
+    may c.args.place c.args.status Waits (record { waiting = s.waiting.items; asked = s.asked.items; settled_end = s.settled_end; link = s.link }) c.args.self.now c.in-Waits.is c.self.view_is c.requires in
+    let more = ap length c.put_place.ensures.items ∙ length-put c.args.place s.waiting.items in
+    let less = ap length c.take_place.ensures.items in
+    let fewer = length-without c.args.place s.asked.items i.1 m.0 in (
+      subst Ascends (sym c.put_place.ensures.items) (ascends_put c.args.place s.waiting.items i.0 m.1),
+      subst Ascends (sym c.take_place.ensures.items) (ascends_without c.args.place s.asked.items i.1),
+      omega (arith, more, less, fewer, i.2, c.put_place.ensures.capacity),
+      omega (arith, more, less, fewer, i.3, c.take_place.ensures.capacity),
+    )
+
+pub invariant_of-self-in-Asked : goal.invariant_of-self-in-Asked
+invariant_of-self-in-Asked c =
+    let s = c.self.inside in
+    let i = c.self.invariant in
+    let m : MayBecome c.args.place (Asked c.in-Asked.link) (record { waiting = s.waiting.items; asked = s.asked.items; settled_end = s.settled_end; link = s.link }) =
+    may c.args.place c.args.status (Asked c.in-Asked.link) (record { waiting = s.waiting.items; asked = s.asked.items; settled_end = s.settled_end; link = s.link }) c.args.self.now c.in-Asked.is c.self.view_is c.requires in
+    let more = ap length c.push_back_reserved.ensures.items ∙ length-append s.asked.items (c.args.place ∷ []) in
+    let less = ap length c.take_place-in-Asked.ensures.items in
+    let fewer = length-without c.args.place s.waiting.items i.0 m.0 in (
+      subst Ascends (sym c.take_place-in-Asked.ensures.items) (ascends_without c.args.place s.waiting.items i.0),
+      subst Ascends (sym c.push_back_reserved.ensures.items) (ascends_pushed c.args.place s.asked.items i.1 m.1),
+      omega (arith, more, less, fewer, i.2, c.take_place-in-Asked.ensures.capacity),
+      omega (arith, more, less, fewer, i.3, c.push_back_reserved.ensures.capacity),
+    )
 
 pub invariant_of-self-in-Settled : goal.invariant_of-self-in-Settled
 invariant_of-self-in-Settled c =
     let s = c.self.inside in
-    let may : MayBecome c.args.place c.args.status (record { first = s.first; parts = s.parts.items }) = subst (MayBecome c.args.place c.args.status) (sym c.self.view_is) c.requires in
-    let settled : MayBecome c.args.place Settled (record { first = s.first; parts = s.parts.items }) = subst (λ t. MayBecome c.args.place t (record { first = s.first; parts = s.parts.items })) c.in-Settled.is may in
-    kept_as_written (record { first = s.first; parts = s.parts.items }) s.base c.max-self-inside.result s.link c.args.place c.args.status s.tree c.set.new.self c.mark.new.parts.items c.summary_at.result c.mark.ensures c.summary_at.ensures c.set.ensures
-    (subst (λ t. Became (record { first = s.first; parts = s.parts.items }) s.base s.tree c.args.place t c.max-self-inside.result s.link) (sym c.in-Settled.is)
-    (became_settled (record { first = s.first; parts = s.parts.items }) s.base s.settled_end s.link c.args.place c.max-self-inside.result s.tree c.self.invariant settled c.max-self-inside.ensures))
+    let i = c.self.invariant in
+    let less = ap length c.take_place-in-Settled.ensures.items in
+    let fewer = length-without_le c.args.place s.asked.items in (
+      i.0,
+      subst Ascends (sym c.take_place-in-Settled.ensures.items) (ascends_without c.args.place s.asked.items i.1),
+      omega (arith, less, fewer, i.2),
+      omega (arith, less, fewer, i.3, c.take_place-in-Settled.ensures.capacity),
+    )
 
-pub invariant_of-self-in-Waits : goal.invariant_of-self-in-Waits
-invariant_of-self-in-Waits c =
+pub invariant_of-self-in-Unsent : goal.invariant_of-self-in-Unsent
+invariant_of-self-in-Unsent c =
     let s = c.self.inside in
-    let may : MayBecome c.args.place c.args.status (record { first = s.first; parts = s.parts.items }) = subst (MayBecome c.args.place c.args.status) (sym c.self.view_is) c.requires in
-    kept_as_written (record { first = s.first; parts = s.parts.items }) s.base s.settled_end s.link c.args.place c.args.status s.tree c.set.new.self c.mark.new.parts.items c.summary_at.result c.mark.ensures c.summary_at.ensures c.set.ensures
-    (elim c.in-Waits.is [
-      | inl e ↦ subst (λ t. Became (record { first = s.first; parts = s.parts.items }) s.base s.tree c.args.place t s.settled_end s.link) (sym e)
-          (became_waits (record { first = s.first; parts = s.parts.items }) s.base s.settled_end s.link c.args.place s.tree c.self.invariant (subst (λ t. MayBecome c.args.place t (record { first = s.first; parts = s.parts.items })) e may))
-      | inr e ↦ subst (λ t. Became (record { first = s.first; parts = s.parts.items }) s.base s.tree c.args.place t s.settled_end s.link) (sym e)
-          (became_unsent (record { first = s.first; parts = s.parts.items }) s.base s.settled_end s.link c.args.place s.tree c.self.invariant (subst (λ t. MayBecome c.args.place t (record { first = s.first; parts = s.parts.items })) e may))
-    ])
+    let i = c.self.invariant in
+    let less = ap length c.take_place-in-Unsent.ensures.items in
+    let fewer = length-without_le c.args.place s.waiting.items in (
+      subst Ascends (sym c.take_place-in-Unsent.ensures.items) (ascends_without c.args.place s.waiting.items i.0),
+      i.1,
+      omega (arith, less, fewer, i.2, c.take_place-in-Unsent.ensures.capacity),
+      omega (arith, less, fewer, i.3),
+    )

@@ -21,7 +21,7 @@ returns-clause-may c =
     let s = c.self.inside in
     let free = subst (λ (o : Order). (place : ℕ) (p : OrderedPart) → ordered_at place o ≡ Some p → p.seat.call < c.in-Some.askable.seat.call → IsBar place o → ⊥) (sym c.self.view_is) (c.is_barred.ensures.free c.if-is_barred.false) in
     subst (λ (o : Order). (place link : ℕ) → Offers (Some c.in-Some.askable) place link → MayAsk place link o × IsOf c.args.slot place o) c.self.view_is
-    (free_may s.parts s.barrier c.args.slot c.in-Some.askable c.in-Some.ensures.sorted c.self.invariant c.in-Some.ensures.may c.in-Some.ensures.seat free)
+    (free_may s.parts c.args.slot c.in-Some.askable c.in-Some.ensures.sorted c.self.invariant c.in-Some.ensures.may c.in-Some.ensures.seat free)
 
 pub returns-clause-asks : goal.returns-clause-asks
 returns-clause-asks c =

@@ -6,5 +6,4 @@ use Rattle.session_core.proofs.order.CallerOrder.join.Goals as goal
 pub invariant_of-self-2 : goal.invariant_of-self-2
 invariant_of-self-2 c =
     let s = c.self.inside in
-    let b = c.first_bar-self-inside.ensures in
-    gate_joined c.args.call c.args.orders.now s.parts s.barrier c.first_bar-self-inside.result (subst (MayJoin c.args.call c.args.orders.now) (sym c.self.view_is) c.requires) c.self.invariant c.join_all.new.parts c.in_ok-join_all.ensures.joined b.passed b.bars b.within
+    gate_joined c.args.call c.args.orders.now s.parts (subst (MayJoin c.args.call c.args.orders.now) (sym c.self.view_is) c.requires) c.self.invariant c.join_all.new.parts c.in_ok-join_all.ensures.joined

@@ -7,4 +7,4 @@ use Rattle.session_core.proofs.order.CallerOrder.note_asked.Goals as goal
 pub invariant_of-self : goal.invariant_of-self
 invariant_of-self c =
     let s = c.self.inside in
-    subst (λ (o : Order). IsGateKept o s.barrier) (sym c.change.ensures.changed) (gate_asked s.parts s.barrier c.args.place c.args.link c.change.ensures.sorted c.self.invariant (subst (MayAsk c.args.place c.args.link) (sym c.self.view_is) c.requires))
+    subst (λ (o : Order). IsGateKept o) (sym c.change.ensures.changed) (gate_asked s.parts c.args.place c.args.link c.change.ensures.sorted c.self.invariant (subst (MayAsk c.args.place c.args.link) (sym c.self.view_is) c.requires))
