@@ -1,5 +1,5 @@
 -- What the lanes are after one of them took a step.
-use Rattle.std.proofs.Common.{true, false, List, Result, Ok, Err, OnOk, OnErr, inl, inr, ◌≡◌, ◌≢◌, ℕ, Option, None, Some, refl, sym, ap, ◌∙◌, subst, arith}
+use Rattle.std.proofs.Common.{false, List, Result, Ok, Err, OnOk, OnErr, inl, inr, ◌≡◌, ◌≢◌, ℕ, Option, None, Some, refl, sym, ap, ◌∙◌, subst, arith}
 use Rattle.std.specs.Option.{unwrap_or, IsSome}
 use Rattle.std.specs.Ordering.{nat_cmp}
 use Rattle.std.specs.Map.{lookup}
@@ -7,10 +7,9 @@ use Rattle.std.specs.declared.alloc.AllocError.{AllocError}
 use Rattle.std.specs.BTreeMap.{BTreeMap, get, is_at, UpdatesBy, WritesThrough}
 use Rattle.std.proofs.lemmas.Bool.{cases_eq}
 use Rattle.std.proofs.lemmas.Bool.Decides.{nat_tests}
-use Rattle.session_core.specs.declared.part.PartOrder.{PartOrder}
 use Rattle.session_core.specs.declared.part.PartOrder.TheVariants.{OfSlot}
 use Rattle.session_core.specs.Inner.Lane.{Lane, no_lane, joined}
-use Rattle.session_core.specs.Inner.Tied.{lane_of, Stepped, AreSame, IsEmpty}
+use Rattle.session_core.specs.Inner.Tied.{lane_of, Stepped, AreSame}
 
 lane_is : (slot : ℕ) (w : Option Lane) (lanes : BTreeMap ℕ Lane) → get nat_cmp lanes slot ≡ w → lane_of slot lanes ≡ unwrap_or w no_lane
 lane_is slot w lanes e = ap (λ o. unwrap_or o no_lane) e
@@ -42,28 +41,12 @@ stepped_by slot step l old new u is = record {
   others = λ q ne. others_same slot (Some l) old new u q (λ e. ne (ap OfSlot e));
 }
 
--- the lane is empty after its step, and is taken out
-pub stepped_freed : (slot : ℕ) (step : Lane → Lane) (l : Lane) (old mid new : BTreeMap ℕ Lane) → UpdatesBy nat_cmp (nat_cmp slot) old mid (Some l) → UpdatesBy nat_cmp (nat_cmp slot) mid new None
-    → IsEmpty (step (lane_of slot old)) → Stepped (OfSlot slot) step old new
-stepped_freed slot step l old mid new u v empty = record {
-  here = λ q e. let same = slots_same slot q e in
-      inr (subst (λ (s : ℕ). lane_of s new ≡ no_lane) same (lane_is slot None new v.1), subst (λ (s : ℕ). IsEmpty (step (lane_of s old))) same empty);
-  others = λ q ne. let apart : slot ≢ q = λ e. ne (ap OfSlot e) in others_same slot None mid new v q apart ∙ others_same slot (Some l) old mid u q apart;
-}
-
 -- what was lent came back as it was
 same_lent : (slot : ℕ) (old new : BTreeMap ℕ Lane) (now l : Lane) → Some now ≡ get nat_cmp old slot → WritesThrough nat_cmp (nat_cmp slot) old l new → l ≡ now → AreSame old new
 same_lent slot old new now l there h is q = elim (cases_eq slot q) [
   | inl e ↦ subst (λ (s : ℕ). lane_of s new ≡ lane_of s old) e (lane_is slot (Some l) new (lent slot old new now l there h).1 ∙ is ∙ sym (lane_there slot old now there))
   | inr ne ↦ others_same slot (Some l) old new (lent slot old new now l there h) q ne
 ]
-
--- an order without a slot takes no step
-pub stepped_idle : (order : PartOrder) (step : Lane → Lane) (lanes : BTreeMap ℕ Lane) → ((slot : ℕ) → order ≡ OfSlot slot → ⊥) → Stepped order step lanes lanes
-stepped_idle order step lanes none = record {
-  here = λ slot is. absurd (none slot is);
-  others = λ slot ne. refl;
-}
 
 -- ---- as the code says it
 

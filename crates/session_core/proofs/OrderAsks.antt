@@ -1,5 +1,5 @@
 -- Which part of a slot may be asked, by the lane of the slot.
-use Rattle.std.proofs.Common.{inl, inr, true, false, ◌≡◌, ◌≢◌, ◌<◌, ◌≤◌, ◌+◌, ◌-◌, ◌⊎◌, ℕ, suc, List, [], Option, None, Some, refl, sym, ap, ◌∙◌, subst, arith}
+use Rattle.std.proofs.Common.{inl, inr, true, false, ◌≡◌, ◌≢◌, ◌<◌, ◌≤◌, ◌+◌, ◌-◌, ℕ, List, [], Option, None, Some, refl, sym, ap, ◌∙◌, subst, arith}
 use Rattle.std.specs.Option.{unwrap_or}
 use Rattle.std.specs.Map.{lookup}
 use Rattle.std.specs.Ordering.{nat_cmp}
@@ -159,15 +159,17 @@ offers_next order lanes bars slot a t n is place link m of =
     let own = asks_next order lanes bars slot place link t m of in
     let low = n.first place own.waits in
     let high = own.first a.place n.waits in
-    let same : a.place ≡ place = omega (arith, low, high) in
-    (same, on_link a.link link (lane_of slot lanes) is (λ q h.
-    let e = l.asked_in q h in
-    let p = status_part slot q order (Asked (lane_of slot lanes).link) e in
-    let slots = both_of_slot p.0.order m.it.order slot p.2 (slot_is order slot place m.it of m.there) in
-    elim (m.earlier q p.0 p.1 (t.sorted.slots q place p.0 m.it (own.behind q h) p.1 m.there slots) slots) [
-      | inl done ↦ (let z : true ≡ false = sym done ∙ ap is_done p.3 in absurd (cc))
-      | inr on ↦ (let z : Asked (lane_of slot lanes).link ≡ Asked link = sym p.3 ∙ on.1 in (let w : (lane_of slot lanes).link ≡ link = cc in w))
-    ]))
+    let same : a.place ≡ place = omega (arith, low, high) in (
+      same,
+      on_link a.link link (lane_of slot lanes) is (λ q h.
+          let e = l.asked_in q h in
+          let p = status_part slot q order (Asked (lane_of slot lanes).link) e in
+          let slots = both_of_slot p.0.order m.it.order slot p.2 (slot_is order slot place m.it of m.there) in
+          elim (m.earlier q p.0 p.1 (t.sorted.slots q place p.0 m.it (own.behind q h) p.1 m.there slots) slots) [
+            | inl done ↦ (let z : true ≡ false = sym done ∙ ap is_done p.3 in absurd (cc))
+            | inr on ↦ (let z : Asked (lane_of slot lanes).link ≡ Asked link = sym p.3 ∙ on.1 in (let w : (lane_of slot lanes).link ≡ link = cc in w))
+          ]),
+    )
 
 -- what the code reads at the place of a part that waits
 pub waiting_part : (order : Order) (lanes : BTreeMap ℕ lane.Lane) (bars : List ℕ) (slot place : ℕ) → IsTied order lanes bars → In place (lane_of slot lanes).waiting → (p : OrderedPart) × (ordered_at place order ≡ Some p) × (p.status ≡ Waits)

@@ -1,8 +1,8 @@
--- What a barrier lets go: the rule for all parts of a caller, by the rule within a slot.
-use Rattle.std.proofs.Common.{inl, inr, true, false, Bool, ◌≡◌, ◌≢◌, ◌<◌, ◌≤◌, ◌+◌, ◌-◌, ◌⊎◌, ℕ, suc, List, [], ◌∷◌, length, length-drop, nat_lt, IfSome, IfNone, drop, if◌then◌else◌, Option, None, Some, refl, sym, ap, ◌∙◌, subst, arith}
+-- What a bar lets go: the rule for all parts of a caller, by the rule within a slot.
+use Rattle.std.proofs.Common.{inl, inr, true, false, Bool, ◌≡◌, ◌≢◌, ◌<◌, ◌≤◌, ◌+◌, ◌-◌, ◌⊎◌, ℕ, List, [], ◌∷◌, length, length-drop, nat_lt, IfSome, IfNone, drop, if◌then◌else◌, Option, None, Some, refl, sym, ap, ◌∙◌, subst, arith}
 use Rattle.std.specs.List.{slice_get}
 use Rattle.std.proofs.lemmas.Option.{same_Some}
-use Rattle.std.proofs.lemmas.Bool.{cases_lt, cases_eq}
+use Rattle.std.proofs.lemmas.Bool.{cases_eq}
 use Rattle.std.proofs.lemmas.Bool.Decides.{nat_tests}
 use Rattle.session_core.specs.declared.part.PartOrder.{PartOrder}
 use Rattle.session_core.specs.declared.part.PartOrder.TheVariants.{OfSlot, Whole, Free}
@@ -14,7 +14,7 @@ use Rattle.session_core.specs.declared.ordered_part.Status.TheVariants.{Waits, A
 use Rattle.session_core.specs.Part.{have_slot, have_order}
 use Rattle.session_core.specs.Order.{Order, no_order, ordered_at, is_done, IsTrimmed, is_effective, LetsBy, MayAskAmong, MayAsk, IsOf, Offers, NamesWaiting, IsOnItsWay, with_status, trimmed, trimmed_from}
 use Rattle.session_core.specs.Inner.Tied.{IsSorted, IsBar, IsFirstBar, IsFirstOver, IsAlone, IsGateKept}
-use Rattle.session_core.proofs.Places.{at_from, at_within, at_there, none_at, dropped_other, changed_same, changed_other, length-changed}
+use Rattle.session_core.proofs.Places.{at_from, at_within, at_there, none_at, dropped_other, changed_same, changed_other}
 use Rattle.session_core.proofs.OrderTies.{bool_cases, slot_of_both}
 use Rattle.session_core.proofs.OrderAsks.{call_le}
 
@@ -127,12 +127,6 @@ whole_may order place link it alone e whole waits none = record {
     | inr not ↦ not
   ];
 }
-
--- a whole part that may be asked has no part of an earlier call before it that is not done
-pub not_held : (order : Order) (place link at : ℕ) (p : OrderedPart) → IsSorted order → (m : MayAsk place link order) → m.it.order ≡ Whole → ordered_at at order ≡ Some p → p.seat.call < m.it.seat.call → is_done p.status ≡ true
-not_held order place link at p s m whole e lt =
-    let related : have_order p.order m.it.order ≡ true = ap (have_order p.order) whole ∙ whole_after p.order (λ free. s.no_free at p e free) in
-    done_by link p m.it (inr whole) (m.earlier at p e lt related)
 
 -- no part is of an earlier call, if the first is not
 pub none_earlier : (order : Order) (call : ℕ) → IsSorted order → ((front : OrderedPart) → ordered_at order.first order ≡ Some front → front.seat.call < call → ⊥)

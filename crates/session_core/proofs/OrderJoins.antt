@@ -4,13 +4,12 @@ use Rattle.std.specs.List.{slice_get}
 use Rattle.std.proofs.lemmas.List.{length-take-le}
 use Rattle.std.proofs.Math.Seq.{take-append_seam, take-length}
 use Rattle.std.proofs.lemmas.Option.{same_Some, slice_get_within}
-use Rattle.std.proofs.lemmas.Bool.{cases_lt}
 use Rattle.session_core.specs.declared.part.PartOrder.{PartOrder}
 use Rattle.session_core.specs.declared.part.PartOrder.TheVariants.{Free}
 use Rattle.session_core.specs.declared.ordered_part.OrderedPart.{OrderedPart}
 use Rattle.session_core.specs.declared.ordered_part.Status.TheVariants.{Waits}
 use Rattle.session_core.specs.Order.{Order, no_order, ordered_at, is_done, is_effective, MayJoin, waiting_parts, joined}
-use Rattle.session_core.specs.Inner.Tied.{MayFollow, IsLastOpen, AreLastOpen, IsBar, IsGateKept, pushed, without_last, first_parts}
+use Rattle.session_core.specs.Inner.Tied.{MayFollow, IsLastOpen, AreLastOpen, IsGateKept, pushed, without_last, first_parts}
 use Rattle.session_core.proofs.Places.{at_from, at_within, at_there, none_at}
 
 get_appended : {X : Type 0} (xs ys : List X) (i : ℕ) (x : X) → slice_get (xs ++ ys) i ≡ Some x → (slice_get xs i ≡ Some x) ⊎ ((length xs ≤ i) × (slice_get ys (i - length xs) ≡ Some x))

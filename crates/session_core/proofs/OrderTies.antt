@@ -1,5 +1,5 @@
 -- The order of a caller, the lanes of its slots and its bars stay tied, whatever step they take together.
-use Rattle.std.proofs.Common.{inl, inr, true, false, Bool, ◌≡◌, ◌≢◌, ◌<◌, ◌≤◌, ◌+◌, ◌-◌, ◌^◌, ◌++◌, ◌⊎◌, ℕ, List, [], ◌∷◌, length, length-append, length-drop, take, drop, Option, None, Some, refl, sym, ap, ◌∙◌, subst, arith}
+use Rattle.std.proofs.Common.{inl, inr, true, false, Bool, ◌≡◌, ◌≢◌, ◌<◌, ◌≤◌, ◌+◌, ◌-◌, ◌^◌, ◌⊎◌, ℕ, List, [], ◌∷◌, length, length-append, length-drop, take, drop, Option, None, Some, refl, sym, ap, ◌∙◌, subst, arith}
 use Rattle.std.specs.BTreeMap.{BTreeMap}
 use Rattle.std.proofs.lemmas.List.{length-take}
 use Rattle.std.proofs.lemmas.Option.{same_Some}
@@ -15,7 +15,7 @@ use Rattle.session_core.specs.Inner.Lane as lane
 use Rattle.session_core.specs.Inner.Lane.{In, Ascends, IsOpen, IsLaneOf}
 use Rattle.session_core.specs.Part.{have_slot}
 use Rattle.session_core.specs.Order.{Order, ordered_at, is_done, is_effective, MayAskAmong, with_status}
-use Rattle.session_core.specs.Inner.Tied.{lane_of, AreSame, IsEmpty, Stepped, IsSorted, IsBar, IsTied, MayChange, MayFollow, status_in, seen, statuses, entered, left, pushed, without_first, without_last}
+use Rattle.session_core.specs.Inner.Tied.{lane_of, AreSame, IsEmpty, Stepped, IsSorted, IsTied, MayChange, MayFollow, status_in, seen, statuses, entered, left, pushed, without_first, without_last}
 use Rattle.session_core.proofs.Ascending.{same_place, in_pushed, pushed_in, in_without, without_in, ascends_pushed, ascends_without}
 use Rattle.session_core.proofs.LaneStates.{MayMove, may_become, lane_changed, lane_gone, lane_joined, lane_same, lane_freed}
 use Rattle.session_core.proofs.Places.{at_below, at_past, at_within, pushed_last, pushed_other, dropped_other, left_other, left_last, length-changed, changed_same, changed_other}
@@ -240,9 +240,12 @@ tied_changed order lanes changed bars place s p t e may step =
           let bar = t.bar_in q w.0 in
           elim (cases_eq q place) [
             | inl same ↦
-                let is : bar.0 ≡ p = same_Some bar.0 p (sym bar.1 ∙ ap (λ n. ordered_at n order) same ∙ e) in
-                (record p { status = s }, ap (λ n. ordered_at n (with_status place s order)) same ∙ here, ap (λ (x : OrderedPart). x.order) (sym is) ∙ bar.2,
-                elim (bool_cases (is_done s)) [ inl done ↦ absurd (w.1 done same) | inr not ↦ not ])
+                let is : bar.0 ≡ p = same_Some bar.0 p (sym bar.1 ∙ ap (λ n. ordered_at n order) same ∙ e) in (
+                  record p { status = s },
+                  ap (λ n. ordered_at n (with_status place s order)) same ∙ here,
+                  ap (λ (x : OrderedPart). x.order) (sym is) ∙ bar.2,
+                  elim (bool_cases (is_done s)) [ inl done ↦ absurd (w.1 done same) | inr not ↦ not ],
+                )
             | inr ne ↦ (bar.0, other q ne ∙ bar.1, bar.2, bar.3)
           ];
       bar_there = λ q bar. elim (cases_eq q place) [

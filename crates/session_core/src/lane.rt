@@ -4,7 +4,7 @@
 //! and the replies are `-ASK 15495 n3:1` and `+OK`. If `SET a 1` were asked again, `a` would end as 1.
 //! So the first part is *overtaken*, and is never asked again.
 
-ghost use Rattle.std.specs.Prelude.{◌≡◌, ◌+◌, ◌<◌, ◌≤◌, ◌^◌, true, ℕ, [], OnOk, OnErr, IfSome, IfNone};
+ghost use Rattle.std.specs.Prelude.{◌≡◌, ◌+◌, ◌<◌, ◌≤◌, true, ℕ, OnOk, OnErr, IfSome, IfNone};
 ghost use Rattle.session_core.specs.declared.ordered_part.Status.{Status};
 ghost use Rattle.session_core.specs.Inner.Lane.{In, no_lane, joined, with_status, MayBecome, IsNext, IsLinkOf};
 ghost use Rattle.session_core.specs.Inner.Tied.{IsEmpty};

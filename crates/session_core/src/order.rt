@@ -4,7 +4,7 @@
 //! `FLUSHALL`, is asked when each earlier call is done, and no later call is asked until it is done.
 //! `PING`, `ECHO` and `TIME` are free of the order, and do not join it.
 
-ghost use Rattle.std.specs.Prelude.{◌≡◌, ◌+◌, ◌<◌, ◌≤◌, ◌-◌, ◌==◌, true, false, ℕ, List, Option, None, Some, IfOk, OnOk, OnErr, IfSome, IfNone, length, take, slice_get};
+ghost use Rattle.std.specs.Prelude.{◌≡◌, ◌+◌, ◌<◌, ◌≤◌, ◌-◌, ◌==◌, true, false, ℕ, Option, None, Some, OnOk, OnErr, IfSome, IfNone, length, take};
 ghost use Rattle.session_core.specs.declared.ordered_part.OrderedPart.{OrderedPart};
 ghost use Rattle.session_core.specs.declared.ordered_part.Status.TheVariants.{Waits, Asked, Settled, Unsent};
 ghost use Rattle.session_core.specs.declared.part.PartOrder.TheVariants.{OfSlot, Whole};
@@ -26,6 +26,8 @@ use std::marker::Model;
 /// goes ahead of it on the same link, and no such part of a later call is on its way or settled.
 ///
 /// A call takes a time that grows with the logarithm of the number of parts, averaged over the calls.
+/// A part that is refused is also put back among those of its slot that wait, which moves up to half of
+/// their places by one.
 #[derive(Drop)]
 pub struct CallerOrder {
     parts: OrderedParts,

@@ -1,10 +1,9 @@
 //! The parts of one caller, in the order of its calls and in the lanes of their slots.
 
-ghost use Rattle.std.specs.Prelude.{◌≡◌, ◌+◌, ◌-◌, ◌<◌, ◌≤◌, ◌^◌, ◌++◌, true, false, ℕ, List, [], ◌∷◌, Option, None, Some, OnOk, OnErr, IfSome, IfNone, length};
+ghost use Rattle.std.specs.Prelude.{◌≡◌, ◌+◌, ◌-◌, ◌<◌, ◌^◌, ℕ, Option, None, Some, OnOk, OnErr, IfSome, IfNone, length};
 ghost use Rattle.session_core.specs.declared.ordered_part.OrderedPart.{OrderedPart};
 ghost use Rattle.session_core.specs.declared.ordered_part.Status.{Status};
 ghost use Rattle.session_core.specs.declared.ordered_part.Status.TheVariants.{Waits};
-ghost use Rattle.session_core.specs.declared.part.PartOrder.TheVariants.{OfSlot, Free};
 ghost use Rattle.session_core.specs.Part.{have_slot};
 ghost use Rattle.session_core.specs.Order.{no_order, ordered_at, MayAskAmong, IsOf, Offers, NamesWaiting, IsOvertaken, marked, with_status};
 ghost use Rattle.session_core.specs.Inner.Lane.{Ascends};

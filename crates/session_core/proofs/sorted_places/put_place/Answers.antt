@@ -1,4 +1,4 @@
-use Rattle.std.proofs.Common.{◌≡◌, ℕ, Result, Ok, Err, OnOk, OnErr, ◌∙◌, arith, subst}
+use Rattle.std.proofs.Common.{ℕ, Result, Ok, Err, OnOk, OnErr, ◌∙◌, arith, subst}
 use Rattle.std.proofs.lemmas.List.Sorted.{searched}
 use Rattle.session_core.specs.Inner.Lane.{In}
 use Rattle.session_core.proofs.Ascending.{rises, inserted, in_at}

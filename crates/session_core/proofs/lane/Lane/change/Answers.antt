@@ -1,7 +1,7 @@
-use Rattle.std.proofs.Common.{◌≡◌, ◌+◌, ◌<◌, ◌≤◌, ◌++◌, ℕ, List, [], ◌∷◌, length, length-append, sym, subst, ap, ◌∙◌, arith}
+use Rattle.std.proofs.Common.{◌≡◌, ℕ, [], ◌∷◌, length, length-append, sym, subst, ap, ◌∙◌, arith}
 use Rattle.session_core.specs.declared.ordered_part.Status.{Status}
-use Rattle.session_core.specs.declared.ordered_part.Status.TheVariants.{Waits, Asked, Settled, Unsent}
-use Rattle.session_core.specs.Inner.Lane.{In, Lane, Ascends, MayBecome}
+use Rattle.session_core.specs.declared.ordered_part.Status.TheVariants.{Waits, Asked}
+use Rattle.session_core.specs.Inner.Lane.{Lane, Ascends, MayBecome}
 use Rattle.session_core.proofs.Ascending.{ascends_pushed, ascends_put, ascends_without, length-put, length-without, length-without_le}
 use Rattle.session_core.proofs.lane.Lane.change.Goals as goal
 

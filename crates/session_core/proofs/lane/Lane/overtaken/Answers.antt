@@ -1,4 +1,4 @@
-use Rattle.std.proofs.Common.{◌≡◌, ◌≤◌, ℕ, sym, subst, arith}
+use Rattle.std.proofs.Common.{◌≤◌, ℕ, subst, arith}
 use Rattle.session_core.specs.Inner.Lane.{In, Lane}
 use Rattle.session_core.proofs.Ascending.{least}
 use Rattle.session_core.proofs.lane.Lane.overtaken.Goals as goal
