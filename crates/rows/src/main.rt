@@ -27,7 +27,6 @@ mod traces;
 
 use crate::calls::CallRows;
 use crate::driving::Driven;
-use crate::order::Order;
 use crate::routing::{Known, combiners, pipelines};
 use crate::shell::new_session;
 use cluster_map::SlotMap;
@@ -48,7 +47,6 @@ struct Rows {
     pipeline: ClusterPipeline,
     driven: Driven,
     link: Link,
-    order: Order,
     calls: CallRows,
     machine: Machine,
     session: Session,
@@ -79,7 +77,7 @@ impl Rows {
             "connections" => connections::call(&self.map, alloc, name, words),
             "serve" => serving::call(alloc, name, words),
             "links" => links::call(&mut self.link, alloc, name, words),
-            "order" => self.order.call(alloc, name, words),
+            "order" => order::call(alloc, name, words),
             "calls" => self.calls.call(alloc, name, words),
             "session" => sessions::call(&mut self.machine, alloc, name, words),
             "shell" => shell::call(&mut self.session, alloc, name, words),
@@ -113,7 +111,6 @@ fn main(rt: HostRuntime) -> ExitCode {
         pipeline: cluster_pipe(alloc),
         driven: Driven::new(alloc),
         link: Link::new(alloc, 0),
-        order: Order::new(alloc),
         calls: CallRows::new(alloc),
         machine: Machine::new(alloc),
         session: new_session(alloc, Vec::new(alloc), AddedNames::new(alloc)),

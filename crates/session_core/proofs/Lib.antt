@@ -23,4 +23,3 @@ pub mod OrderTies
 pub mod OrderAsks
 pub mod OrderGate
 pub mod OrderJoins
-pub mod ReplyPlaces

@@ -1,5 +1,4 @@
 pub mod Ready
 pub mod Heard
 pub mod Lane
-pub mod OwedFrom
 pub mod Tied

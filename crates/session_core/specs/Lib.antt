@@ -9,4 +9,3 @@ pub mod State
 pub mod History
 pub mod Places
 pub mod Order
-pub mod Replies

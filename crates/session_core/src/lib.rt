@@ -3,7 +3,6 @@
 //!
 //! [`Link`] is one connection to a node: what is asked on it in order, and whose replies come.
 //! [`CallerOrder`] has the parts of one caller in the order of its calls, and says which may be asked.
-//! [`Replies`] says whose reply is next.
 //!
 //! The functions of `promises` are laws. They hold of each run of links and calls, and a call of one
 //! does nothing.
@@ -20,7 +19,6 @@ mod ordered_part;
 mod ordered_parts;
 mod part;
 mod promises;
-mod replies;
 mod sorted_places;
 
 pub use laws::{each_link, take_or_break};
@@ -29,4 +27,3 @@ pub use order::CallerOrder;
 pub use ordered_part::{Askable, OrderedPart, Overtaken, Seat, Status};
 pub use part::{Cause, PartOrder};
 pub use promises::{answered, ended, given_up, in_order, in_turn, mine, once, single, told};
-pub use replies::{OwedReply, Replies};

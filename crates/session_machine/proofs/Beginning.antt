@@ -7,18 +7,19 @@ use Rattle.session_core.specs.declared.ordered_part.OrderedPart.{OrderedPart}
 use Rattle.session_core.specs.declared.part.PartOrder.{PartOrder}
 use Rattle.session_core.specs.Order.{Order, MayJoin, joined, waiting_parts}
 use Rattle.session_core.specs.Part.{PartState, is_waiting}
-use Rattle.session_core.specs.Replies.{owes, HaveBegun}
+use Rattle.std.specs.Ordering.{nat_cmp}
+use Rattle.std.specs.BTreeSet.{Updates}
 use Rattle.session_core.specs.State.{State, CallState, Begin, begun, AreApart, Has, May, Happens, after}
 use Rattle.session_core.proofs.AfterEvents.{has_begun, call_new}
 use Rattle.session_core.proofs.OrderJoins.{length-waiting}
 use Rattle.session_core.proofs.PlaceLists.{get_pushed, get_pushed_last, get_before}
 use Rattle.session_machine.specs.declared.caller.CallPlaces.{CallPlaces}
 use Rattle.session_machine.specs.declared.callers.Callers.{Callers}
-use Rattle.session_machine.specs.Callers.{order_of, replies_of, last_of, OthersKept, CallsKept}
+use Rattle.session_machine.specs.Callers.{order_of, owed_of, last_of, OthersKept, CallsKept}
 use Rattle.session_machine.specs.Ties.{AreTied, AreOwed, AreOrdered, AreFree, is_ordered, end_of}
 use Rattle.session_machine.proofs.Ties.Tied.{tied_orders}
 use Rattle.session_machine.proofs.Ties.Begins.{orders_of, began_cases, may_join, tied_began, tied_began_free}
-use Rattle.session_machine.proofs.Ties.Owed.{IsHeld, held_before, more_of, owed_began, owed_same}
+use Rattle.session_machine.proofs.Ties.Owed.{IsHeld, held_before, owed_began, owed_same}
 use Rattle.session_machine.proofs.Ties.Reached.{reached_after}
 use Rattle.session_machine.specs.Begun.{ordered_of, HaveRequests}
 use Rattle.session_machine.specs.Kept.{IsKept, AreLast}
@@ -83,12 +84,11 @@ joins {callers = callers} s k call caller parts is wait apart alike = elim alike
 pub begin_failed : {places : List CallPlaces} {callers : Callers} {began : ℕ} (s : State) (new : Callers) → IsKept s places callers began → CallsKept callers new → IsKept s places new began
 begin_failed {callers = callers} s new k kept = record {
   order_places = k.order_places;
-  reply_places = k.reply_places;
   count = k.count;
   at = k.at;
   reached = k.reached;
   tied = tied_orders (λ caller. order_of caller new) k.tied kept.order;
-  owed = owed_same (λ caller. replies_of caller new) k.owed kept.owed;
+  owed = owed_same (λ caller. owed_of caller new) k.owed kept.owed;
   last = record {
     parts = λ caller call part p has. let r = k.last.parts caller call part p has in (r.0, kept.last caller ∙ r.1, r.2);
     wanted = λ call state is w. let r = k.last.wanted call state is w in (r.0, kept.last state.caller ∙ r.1, r.2);
@@ -122,8 +122,8 @@ begin_happens s now call caller parts calls e is wait apart calls_are = subst (�
 
 module _ {places : List CallPlaces} {callers : Callers} {began : ℕ} (s : State) (k : IsKept s places callers began) (call caller : ℕ) (parts : List PartState) (at : CallPlaces) (new : Callers) (calls : List CallState)
     (is : call ≡ begun s) (wait : list_all (λ p. is_waiting p.phase) parts ≡ true) (apart : AreApart parts) (alike : AreAlike parts) (requests : HaveRequests parts)
-    (caller_at : at.caller ≡ caller) (order_at : at.order ≡ end_of (order_of caller callers)) (reply_at : at.reply ≡ (replies_of caller callers).next_place)
-    (joins_as : order_of caller new ≡ joined call (ordered_of parts) (order_of caller callers)) (owes_as : replies_of caller new ≡ owes call (replies_of caller callers)) (below : HaveBegun (replies_of caller callers)) (last_is : last_of caller new ≡ Some call) (kept : OthersKept caller callers new)
+    (caller_at : at.caller ≡ caller) (order_at : at.order ≡ end_of (order_of caller callers))
+    (joins_as : order_of caller new ≡ joined call (ordered_of parts) (order_of caller callers)) (owes_as : Updates nat_cmp (owed_of caller callers) (owed_of caller new) call true) (last_is : last_of caller new ≡ Some call) (kept : OthersKept caller callers new)
     (calls_are : calls ≡ s.calls ++ begun_call caller parts ∷ []) where
   may : May (Begin call caller parts) s
   may = (is, wait, apart)
@@ -138,19 +138,16 @@ module _ {places : List CallPlaces} {callers : Callers} {began : ℕ} (s : State
         (place_stays call at.order k.order_places)
   ]
 
-  place_at : (i : ℕ) (p : CallPlaces) → slice_get (places ++ at ∷ []) i ≡ Some p → (with_place call at.order k.order_places (s.first + i) ≡ p.order) × (with_place call at.reply k.reply_places (s.first + i) ≡ p.reply)
+  place_at : (i : ℕ) (p : CallPlaces) → slice_get (places ++ at ∷ []) i ≡ Some p → with_place call at.order k.order_places (s.first + i) ≡ p.order
   place_at i p e = elim (cases_eq i (length places)) [
     | inl last ↦
         let n : s.first + i ≡ call = omega (arith, last, k.count, is) in
-        let own : at ≡ p = same_Some at p (sym (get_pushed_last places at) ∙ ap (slice_get (places ++ at ∷ [])) (sym last) ∙ e) in (
-          ap (with_place call at.order k.order_places) n ∙ place_here call at.order k.order_places ∙ ap (λ (x : CallPlaces). x.order) own,
-          ap (with_place call at.reply k.reply_places) n ∙ place_here call at.reply k.reply_places ∙ ap (λ (x : CallPlaces). x.reply) own,
-        )
+        let own : at ≡ p = same_Some at p (sym (get_pushed_last places at) ∙ ap (slice_get (places ++ at ∷ [])) (sym last) ∙ e) in
+        ap (with_place call at.order k.order_places) n ∙ place_here call at.order k.order_places ∙ ap (λ (x : CallPlaces). x.order) own
     | inr before ↦
         let old : slice_get places i ≡ Some p = sym (get_pushed places at i before) ∙ e in
         let ne : (s.first + i) ≢ call = λ same. omega (arith, slice_get_within places i p old, k.count, is, same) in
-        let stood = k.at i p old in
-        (place_stays call at.order k.order_places (s.first + i) ne ∙ stood.0, place_stays call at.reply k.reply_places (s.first + i) ne ∙ stood.1)
+        place_stays call at.order k.order_places (s.first + i) ne ∙ k.at i p old
   ]
 
   -- an earlier call of a caller is not past its last one
@@ -212,15 +209,12 @@ module _ {places : List CallPlaces} {callers : Callers} {began : ℕ} (s : State
       let both : length more ≡ length places + 1 = ap length more_is ∙ (let n : length (places ++ at ∷ []) ≡ length places + 1 = omega (arith, length-append places (at ∷ [])) in n) in
       record {
         order_places = with_place call at.order k.order_places;
-        reply_places = with_place call at.reply k.reply_places;
         count = omega (arith, many, both, k.count);
         at = λ i p e. place_at i p (ap (λ (ps : List CallPlaces). slice_get ps i) (sym more_is) ∙ e);
         reached = reached_after s next (Begin call caller parts) k.reached happens;
         tied = subst (λ t. AreTied t (with_place call at.order k.order_places) (λ c. order_of c new)) (sym happens.is) tied;
-        owed = subst (λ t. AreOwed t (with_place call at.reply k.reply_places) (λ c. replies_of c new)) (sym happens.is)
-            (owed_began call caller parts (λ c. replies_of c new) (with_place call at.reply k.reply_places) k.owed may
-            (more_of caller call (λ c. replies_of c callers) (λ c. replies_of c new) owes_as kept.replies) below
-            (place_here call at.reply k.reply_places ∙ reply_at) (place_stays call at.reply k.reply_places));
+        owed = subst (λ t. AreOwed t (λ c. owed_of c new)) (sym happens.is)
+            (owed_began call caller parts (λ c. owed_of c new) k.owed may (record { owed = owes_as; others = kept.owed }));
         last = subst (λ t. AreLast t more (λ c. last_of c new)) (sym happens.is) (subst (λ ps. AreLast (after (Begin call caller parts) s) ps (λ c. last_of c new)) (sym more_is) last);
         some = λ c n q p has. some c n q p (subst (λ t. Has t c n q p) happens.is has);
         short = λ c. omega (arith, short c, total_is);

@@ -1,27 +1,27 @@
 -- What is kept of each caller after the entry of one of them changed.
-use Rattle.std.proofs.Common.{inl, inr, false, List, [], ◌≡◌, ◌≢◌, ℕ, Result, Ok, Err, OnErr, Option, None, Some, refl, sym, ap, ◌∙◌, subst, arith}
+use Rattle.std.proofs.Common.{inl, inr, List, [], ◌≡◌, ◌≢◌, ℕ, Result, Ok, Err, OnErr, Option, None, Some, refl, sym, ap, ◌∙◌, subst}
 use Rattle.std.specs.Option.{unwrap_or, option_map, IsSome}
 use Rattle.std.specs.Ordering.{nat_cmp}
 use Rattle.std.specs.Map.{lookup}
 use Rattle.std.specs.BTreeMap.{BTreeMap, get, is_at, UpdatesBy, WritesThrough}
 use Rattle.std.proofs.lemmas.Bool.{cases_eq}
-use Rattle.std.proofs.lemmas.Bool.Decides.{nat_tests}
 use Rattle.session_core.specs.declared.ordered_part.OrderedPart.{OrderedPart}
 use Rattle.session_core.specs.Order.{Order, no_order, ordered_at, IsTrimmed}
-use Rattle.session_core.specs.Replies.{Replies}
 use Rattle.session_core.proofs.Places.{none_at}
+use Rattle.session_machine.proofs.Numbers.{other_key}
 use Rattle.session_machine.specs.declared.caller.Caller.{Caller}
 use Rattle.session_machine.specs.declared.callers.Callers.{Callers}
 use Rattle.session_machine.specs.Caller.{no_calls, KeepsCalls}
-use Rattle.session_machine.specs.Callers.{caller_of, order_of, replies_of, last_of, OthersKept, OnlyOrder, OnlyReplies, CallsKept, IsForgotten}
+use Rattle.session_machine.specs.Ties.{is_owed}
+use Rattle.session_machine.specs.Callers.{caller_of, order_of, owed_of, last_of, OthersKept, OnlyOrder, OnlyOwed, CallsKept, IsForgotten}
 
 order_is : (caller : ℕ) (callers : Callers) → order_of caller callers ≡ (caller_of caller callers).order
 unfolding order_of
 order_is caller callers = refl
 
-replies_is : (caller : ℕ) (callers : Callers) → replies_of caller callers ≡ (caller_of caller callers).replies
-unfolding replies_of
-replies_is caller callers = refl
+owed_is : (caller : ℕ) (callers : Callers) → owed_of caller callers ≡ (caller_of caller callers).owed
+unfolding owed_of
+owed_is caller callers = refl
 
 last_is : (caller : ℕ) (callers : Callers) → last_of caller callers ≡ option_map (λ (c : Caller). c.last) (get nat_cmp callers.callers caller)
 unfolding last_of
@@ -33,8 +33,8 @@ last_by caller callers o e = last_is caller callers ∙ ap (option_map (λ (c : 
 pub order_by : (caller : ℕ) (callers : Callers) (x : Caller) → caller_of caller callers ≡ x → order_of caller callers ≡ x.order
 order_by caller callers x e = order_is caller callers ∙ ap (λ (c : Caller). c.order) e
 
-pub replies_by : (caller : ℕ) (callers : Callers) (x : Caller) → caller_of caller callers ≡ x → replies_of caller callers ≡ x.replies
-replies_by caller callers x e = replies_is caller callers ∙ ap (λ (c : Caller). c.replies) e
+pub owed_by : (caller : ℕ) (callers : Callers) (x : Caller) → caller_of caller callers ≡ x → owed_of caller callers ≡ x.owed
+owed_by caller callers x e = owed_is caller callers ∙ ap (λ (c : Caller). c.owed) e
 
 -- a caller that the map has, or lacks
 pub there : (caller : ℕ) (callers : Callers) (x : Caller) → Some x ≡ get nat_cmp callers.callers caller → caller_of caller callers ≡ x
@@ -59,14 +59,11 @@ none_there place order p e at = let n = nothing_at place order e in let q : ◌�
 pub no_front : (order : Order) → order ≡ no_order → IsTrimmed order
 no_front order e = λ p at. absurd (none_there order.first order p e at)
 
-other_key : (caller other : ℕ) → other ≢ caller → is_at (nat_cmp caller) other ≡ false
-other_key caller other ne = grind (arith, nat_tests)
-
 same_order : (caller : ℕ) (old new : Callers) → caller_of caller new ≡ caller_of caller old → order_of caller new ≡ order_of caller old
 same_order caller old new e = order_by caller new (caller_of caller old) e ∙ sym (order_is caller old)
 
-same_replies : (caller : ℕ) (old new : Callers) → caller_of caller new ≡ caller_of caller old → replies_of caller new ≡ replies_of caller old
-same_replies caller old new e = replies_by caller new (caller_of caller old) e ∙ sym (replies_is caller old)
+same_owed : (caller : ℕ) (old new : Callers) → caller_of caller new ≡ caller_of caller old → owed_of caller new ≡ owed_of caller old
+same_owed caller old new e = owed_by caller new (caller_of caller old) e ∙ sym (owed_is caller old)
 
 -- the map has another entry for one caller, or none
 pub others_kept : (caller : ℕ) (w : Option Caller) (old new : Callers) → UpdatesBy nat_cmp (nat_cmp caller) old.callers new.callers w → OthersKept caller old new
@@ -74,7 +71,7 @@ others_kept caller w old new u =
     let same : (other : ℕ) → other ≢ caller → caller_of other new ≡ caller_of other old = λ other ne. ap (λ o. unwrap_or o no_calls) (u.2 other (other_key caller other ne)) in
     record {
       order = λ other ne. same_order other old new (same other ne);
-      replies = λ other ne. same_replies other old new (same other ne);
+      owed = λ other ne. same_owed other old new (same other ne);
       last = λ other ne. last_by other new (get nat_cmp old.callers other) (sym (u.2 other (other_key caller other ne))) ∙ sym (last_is other old);
     }
 
@@ -84,18 +81,18 @@ now_is caller w old new u = ap (λ o. unwrap_or o no_calls) u.1
 -- the caller was `was`, and is `now`
 pub record Written (caller : ℕ) (was now : Caller) (old new : Callers) : Type 0 where
   pub was_order : order_of caller old ≡ was.order
-  pub was_replies : replies_of caller old ≡ was.replies
+  pub was_owed : owed_of caller old ≡ was.owed
   pub order : order_of caller new ≡ now.order
-  pub replies : replies_of caller new ≡ now.replies
+  pub owed : owed_of caller new ≡ now.owed
   pub last : last_of caller new ≡ Some now.last
   pub others : OthersKept caller old new
 
 pub written : (caller : ℕ) (was now : Caller) (old new : Callers) → caller_of caller old ≡ was → UpdatesBy nat_cmp (nat_cmp caller) old.callers new.callers (Some now) → Written caller was now old new
 written caller was now old new e u = record {
   was_order = order_by caller old was e;
-  was_replies = replies_by caller old was e;
+  was_owed = owed_by caller old was e;
   order = order_by caller new now (now_is caller (Some now) old new u);
-  replies = replies_by caller new now (now_is caller (Some now) old new u);
+  owed = owed_by caller new now (now_is caller (Some now) old new u);
   last = last_by caller new (Some now) (sym u.1);
   others = others_kept caller (Some now) old new u;
 }
@@ -114,40 +111,40 @@ lent_last caller old new was now e h last = λ other.
     ]
 
 -- the order of the entry changed
-pub lent_order : (caller : ℕ) (old : Callers) (new : BTreeMap ℕ Caller) (was now : Caller) → Some was ≡ get nat_cmp old.callers caller → WritesThrough nat_cmp (nat_cmp caller) old.callers now new → now.replies ≡ was.replies → now.last ≡ was.last
+pub lent_order : (caller : ℕ) (old : Callers) (new : BTreeMap ℕ Caller) (was now : Caller) → Some was ≡ get nat_cmp old.callers caller → WritesThrough nat_cmp (nat_cmp caller) old.callers now new → now.owed ≡ was.owed → now.last ≡ was.last
     → OnlyOrder caller old (record { callers = new })
-lent_order caller old new was now e h replies last =
+lent_order caller old new was now e h owed last =
     let w = lent caller old new was now e h in
     record {
       order = w.others.order;
-      replies = λ other. elim (cases_eq other caller) [
-        | inl same ↦ subst (λ (n : ℕ). replies_of n (record { callers = new }) ≡ replies_of n old) (sym same) (w.replies ∙ replies ∙ sym w.was_replies)
-        | inr ne ↦ w.others.replies other ne
+      owed = λ other. elim (cases_eq other caller) [
+        | inl same ↦ subst (λ (n : ℕ). owed_of n (record { callers = new }) ≡ owed_of n old) (sym same) (w.owed ∙ owed ∙ sym w.was_owed)
+        | inr ne ↦ w.others.owed other ne
       ];
       last = lent_last caller old new was now e h last;
     }
 
--- its replies changed
-pub lent_replies : (caller : ℕ) (old : Callers) (new : BTreeMap ℕ Caller) (was now : Caller) → Some was ≡ get nat_cmp old.callers caller → WritesThrough nat_cmp (nat_cmp caller) old.callers now new → now.order ≡ was.order → now.last ≡ was.last
-    → OnlyReplies caller old (record { callers = new })
-lent_replies caller old new was now e h order last =
+-- what replies it is owed changed
+pub lent_owed : (caller : ℕ) (old : Callers) (new : BTreeMap ℕ Caller) (was now : Caller) → Some was ≡ get nat_cmp old.callers caller → WritesThrough nat_cmp (nat_cmp caller) old.callers now new → now.order ≡ was.order → now.last ≡ was.last
+    → OnlyOwed caller old (record { callers = new })
+lent_owed caller old new was now e h order last =
     let w = lent caller old new was now e h in
     record {
       order = λ other. elim (cases_eq other caller) [
         | inl same ↦ subst (λ (n : ℕ). order_of n (record { callers = new }) ≡ order_of n old) (sym same) (w.order ∙ order ∙ sym w.was_order)
         | inr ne ↦ w.others.order other ne
       ];
-      replies = w.others.replies;
+      owed = w.others.owed;
       last = lent_last caller old new was now e h last;
     }
 
 pub only_same : (caller : ℕ) (callers : Callers) → OnlyOrder caller callers callers
-only_same caller callers = record { order = λ other ne. refl; replies = λ other. refl; last = λ other. refl }
+only_same caller callers = record { order = λ other ne. refl; owed = λ other. refl; last = λ other. refl }
 
 pub only_twice : (caller : ℕ) (old mid new : Callers) → OnlyOrder caller old mid → OnlyOrder caller mid new → OnlyOrder caller old new
 only_twice caller old mid new one two = record {
   order = λ other ne. two.order other ne ∙ one.order other ne;
-  replies = λ other. two.replies other ∙ one.replies other;
+  owed = λ other. two.owed other ∙ one.owed other;
   last = λ other. two.last other ∙ one.last other;
 }
 
@@ -159,9 +156,9 @@ each_kept caller was now old new was_last w k = record {
     | inl e ↦ subst (λ (n : ℕ). order_of n new ≡ order_of n old) (sym e) (w.order ∙ k.order ∙ sym w.was_order)
     | inr ne ↦ w.others.order other ne
   ];
-  owed = λ other. elim (cases_eq other caller) [
-    | inl e ↦ subst (λ (n : ℕ). (replies_of n new).owed ≡ (replies_of n old).owed) (sym e) (ap (λ (r : Replies). r.owed) w.replies ∙ k.owed ∙ sym (ap (λ (r : Replies). r.owed) w.was_replies))
-    | inr ne ↦ ap (λ (r : Replies). r.owed) (w.others.replies other ne)
+  owed = λ other call. elim (cases_eq other caller) [
+    | inl e ↦ subst (λ (n : ℕ). is_owed call (owed_of n new) ≡ is_owed call (owed_of n old)) (sym e) (ap (is_owed call) w.owed ∙ k.owed call ∙ sym (ap (is_owed call) w.was_owed))
+    | inr ne ↦ ap (is_owed call) (w.others.owed other ne)
   ];
   last = λ other. elim (cases_eq other caller) [
     | inl e ↦ subst (λ (n : ℕ). last_of n new ≡ last_of n old) (sym e) (w.last ∙ ap Some k.last ∙ sym was_last)
@@ -182,7 +179,7 @@ same_lasts caller old new e = last_is caller new ∙ ap (λ (es : List (ℕ × C
 pub others_same : (caller : ℕ) (old new : Callers) → new.callers.entries ≡ old.callers.entries → OthersKept caller old new
 others_same caller old new e = record {
   order = λ other ne. same_order other old new (same_callers other old new e);
-  replies = λ other ne. same_replies other old new (same_callers other old new e);
+  owed = λ other ne. same_owed other old new (same_callers other old new e);
   last = λ other ne. same_lasts other old new e;
 }
 
@@ -190,7 +187,7 @@ pub err_same : {T E : Type 0} (old new : Callers) (result : Result T E) → new.
 err_same old new (Ok x) e = tt
 err_same old new (Err x) e = record {
   order = λ other. same_order other old new (same_callers other old new e);
-  owed = λ other. ap (λ (r : Replies). r.owed) (same_replies other old new (same_callers other old new e));
+  owed = λ other call. ap (is_owed call) (same_owed other old new (same_callers other old new e));
   last = λ other. same_lasts other old new e;
 }
 
@@ -199,7 +196,7 @@ err_same old new (Err x) e = record {
 pub forgotten : (caller : ℕ) (old new : Callers) → UpdatesBy nat_cmp (nat_cmp caller) old.callers new.callers None → IsForgotten caller old new
 forgotten caller old new u = record {
   order = order_by caller new no_calls (now_is caller None old new u);
-  replies = replies_by caller new no_calls (now_is caller None old new u);
+  owed = owed_by caller new no_calls (now_is caller None old new u);
   last = last_by caller new None (sym u.1);
   others = others_kept caller None old new u;
 }

@@ -8,16 +8,17 @@ use Rattle.session_core.specs.declared.part.PartOrder.{PartOrder}
 use Rattle.session_core.specs.declared.part.PartOrder.TheVariants.{Free}
 use Rattle.session_core.specs.Order.{Order}
 use Rattle.session_core.specs.Part.{PartState}
-use Rattle.session_core.specs.Replies.{Replies, without_place, IsOwed}
+use Rattle.std.specs.Ordering.{nat_cmp}
+use Rattle.std.specs.BTreeSet.{BTreeSet, Updates}
 use Rattle.session_core.specs.State.{State, CallState, GiveUp, begun, numbered, call_at, call_after, link_after, Has, Happens}
 use Rattle.session_core.proofs.AfterEvents.{seen, has_begun, length-numbered}
 use Rattle.session_core.proofs.PlaceLists.{at_index}
 use Rattle.session_machine.specs.declared.caller.CallPlaces.{CallPlaces}
 use Rattle.session_machine.specs.declared.callers.Callers.{Callers}
-use Rattle.session_machine.specs.Callers.{order_of, replies_of, OnlyReplies}
-use Rattle.session_machine.specs.Ties.{AreTied, OrderGoes, given_up, is_ordered, end_of}
+use Rattle.session_machine.specs.Callers.{order_of, owed_of, OnlyOwed}
+use Rattle.session_machine.specs.Ties.{AreTied, OrderGoes, given_up, is_ordered, is_owed, end_of}
 use Rattle.session_machine.proofs.Ties.GiveUps.{call_within, tied_given_up, gave_up_free, all_free}
-use Rattle.session_machine.proofs.Ties.Owed.{IsHeld, is_owed, over_of, owed_given_up}
+use Rattle.session_machine.proofs.Ties.Owed.{IsHeld, owed_given_up}
 use Rattle.session_machine.specs.Calls as calls
 use Rattle.session_machine.specs.Calls.{with_call}
 use Rattle.session_machine.specs.Kept.{IsKept, IsPlace, CallGoes}
@@ -95,26 +96,19 @@ module _ {places : List CallPlaces} {callers : Callers} {began : ℕ} (s : State
         ∙ ap (state_of (numbered (link_after (GiveUp call)) 0 s.links) s.first) (is ∙ given_up_calls call s.first s.calls);
   })
 
-  -- its reply is owed no more
-  pub give_owed : (mid : Callers) (reply : ℕ) → state.is_wanted ≡ true → ((at : CallPlaces) → slice_get places (call - s.first) ≡ Some at → reply ≡ at.reply) → ((c : ℕ) → replies_of c mid ≡ replies_of c callers) → IsOwed reply (replies_of state.caller mid)
-  give_owed mid reply wanted reply_as same =
-      let st = call_stands k call state call_is in
-      let at : reply ≡ k.reply_places call = reply_as st.at st.there ∙ sym st.reply_is in
-      subst (λ (r : Replies). IsOwed reply r) (sym (same state.caller))
-      (subst (λ (n : ℕ). IsOwed n (replies_of state.caller callers)) (sym at) (is_owed call state k.owed call_is wanted))
+  -- its reply is owed
+  pub give_owed : (mid : Callers) → state.is_wanted ≡ true → ((c : ℕ) → owed_of c mid ≡ owed_of c callers) → is_owed call (owed_of state.caller mid) ≡ true
+  give_owed mid wanted same = ap (is_owed call) (same state.caller) ∙ k.owed.wanted call state call_is wanted
 
-  pub give_kept : (after_calls : List CallState) (mid new : Callers) (reply : ℕ) → state.is_wanted ≡ true → ((at : CallPlaces) → slice_get places (call - s.first) ≡ Some at → reply ≡ at.reply)
+  pub give_kept : (after_calls : List CallState) (mid new : Callers) → state.is_wanted ≡ true
       → after_calls ≡ with_call call s.first calls.given_up s.calls → CallGoes state.caller place count order callers mid
-      → (replies_of state.caller new).owed ≡ without_place reply (replies_of state.caller mid).owed
-      → OnlyReplies state.caller mid new → IsKept (state_of s.links s.first after_calls) places new began
-  give_kept after_calls mid new reply wanted reply_as is goes owed only =
+      → Updates nat_cmp (owed_of state.caller mid) (owed_of state.caller new) call false
+      → OnlyOwed state.caller mid new → IsKept (state_of s.links s.first after_calls) places new began
+  give_kept after_calls mid new wanted is goes owed only =
       let caller = state.caller in
-      let st = call_stands k call state call_is in
       let may : call < begun s = has_begun call s state call_is in
       let held : IsHeld s caller call = record { state = state; call_is = call_is; caller_is = refl; wanted = wanted } in
-      let at : reply ≡ k.reply_places call = reply_as st.at st.there ∙ sym st.reply_is in
-      let gone : (replies_of caller new).owed ≡ without_place (k.reply_places call) (replies_of caller callers).owed =
-      owed ∙ ap (λ n. without_place n (replies_of caller mid).owed) at ∙ ap (λ (r : Replies). without_place (k.reply_places call) r.owed) (goes.only.replies caller) in
+      let gone : Updates nat_cmp (owed_of caller callers) (owed_of caller new) call false = subst (λ (x : BTreeSet ℕ). Updates nat_cmp x (owed_of caller new) call false) (goes.only.owed caller) owed in
       let others : (other : ℕ) → other ≢ caller → order_of other new ≡ order_of other callers = λ other ne. only.order other ∙ goes.only.order other ne in
       let to : is_ordered order ≡ true → OrderGoes (given_up place count) (order_of caller callers) (order_of caller new) = λ o. subst (λ (x : Order). OrderGoes (given_up place count) (order_of caller callers) x) (sym (only.order caller)) (goes.ordered o) in
       let same : is_ordered order ≡ false → (other : ℕ) → order_of other new ≡ order_of other callers = λ f other. elim (cases_eq other caller) [
@@ -131,8 +125,8 @@ module _ {places : List CallPlaces} {callers : Callers} {began : ℕ} (s : State
       (subst (λ (n : ℕ). OrderGoes (given_up place n) (order_of caller callers) (order_of caller new)) many (to o)))
       others)
       (λ f. gave_up_free call (λ c. order_of c new) k.tied may (none_ordered call state order k.tied call_is first f) (same f)))
-      (owed_given_up (λ c. replies_of c new) k.owed may held
-      (over_of caller (k.reply_places call) (λ c. replies_of c callers) (λ c. replies_of c new) gone (λ other ne. only.replies other ne ∙ goes.only.replies other)))
+      (owed_given_up (λ c. owed_of c new) k.owed may held
+      (record { owed = gone; others = λ other ne. only.owed other ne ∙ goes.only.owed other }))
       (λ other. only.last other ∙ goes.only.last other)
       (λ other. elim (cases_eq other caller) [
         | inl own ↦ by_test (is_ordered order)

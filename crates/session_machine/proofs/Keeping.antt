@@ -9,7 +9,6 @@ use Rattle.session_core.specs.declared.part.PartOrder.{PartOrder}
 use Rattle.session_core.specs.Channel.{Channel}
 use Rattle.session_core.specs.LinkEvents as link
 use Rattle.session_core.specs.Order.{no_order}
-use Rattle.session_core.specs.Replies.{no_replies}
 use Rattle.session_core.specs.declared.link.Standing.TheVariants.{Ended}
 use Rattle.session_core.specs.Part.{PartState}
 use Rattle.session_core.specs.State.{State, CallState, Event, Open, On, Forget, start, numbered, call_at, call_after, link_after, links_for, phase_after, unwants, Has, MayPut, Happens, after}
@@ -17,8 +16,8 @@ use Rattle.session_core.proofs.AfterEvents.{call_is, not_forgotten, length-numbe
 use Rattle.session_core.proofs.PlaceLists.{at_index}
 use Rattle.session_machine.specs.declared.caller.CallPlaces.{CallPlaces}
 use Rattle.session_machine.specs.declared.callers.Callers.{Callers}
-use Rattle.session_machine.specs.Callers.{order_of, replies_of, last_of}
-use Rattle.session_machine.specs.Ties.{AreTied, AreOwed, OrderGoes, gets, is_ordered, status_of, end_of, IsSteady}
+use Rattle.session_machine.specs.Callers.{order_of, owed_of, last_of}
+use Rattle.session_machine.specs.Ties.{AreTied, AreOwed, no_owed, OrderGoes, gets, is_ordered, status_of, end_of, IsSteady}
 use Rattle.session_machine.proofs.Ties.Tied.{IsOnly, part_came, steady_new, tied_part, tied_free, tied_start}
 use Rattle.session_machine.proofs.Ties.Links.{IsQuiet, tied_quiet, quiet_phase}
 use Rattle.session_machine.proofs.Ties.GiveUps.{call_within, part_within}
@@ -34,15 +33,14 @@ state_of links first calls = record { links = links; first = first; calls = call
 
 -- ---- the places of a call
 
-pub record Stands (s : State) (places : List CallPlaces) (order_places reply_places : ℕ → ℕ) (call : ℕ) : Type 0 where
+pub record Stands (s : State) (places : List CallPlaces) (order_places : ℕ → ℕ) (call : ℕ) : Type 0 where
   pub low : s.first ≤ call
   pub within : call - s.first < length places
   pub at : CallPlaces
   pub there : slice_get places (call - s.first) ≡ Some at
   pub order_is : order_places call ≡ at.order
-  pub reply_is : reply_places call ≡ at.reply
 
-pub call_stands : {s : State} {places : List CallPlaces} {callers : Callers} {began : ℕ} (k : IsKept s places callers began) (call : ℕ) (state : CallState) → call_at call s ≡ Some state → Stands s places k.order_places k.reply_places call
+pub call_stands : {s : State} {places : List CallPlaces} {callers : Callers} {began : ℕ} (k : IsKept s places callers began) (call : ℕ) (state : CallState) → call_at call s ≡ Some state → Stands s places k.order_places call
 call_stands {s = s} {places = places} k call state is =
     let low = not_forgotten call s state is in
     let inside = slice_get_within s.calls (call - s.first) state (sym (call_is call s low) ∙ is) in
@@ -55,11 +53,10 @@ call_stands {s = s} {places = places} k call state is =
       within = within;
       at = p.0;
       there = p.1;
-      order_is = ap k.order_places (sym n) ∙ at.0;
-      reply_is = ap k.reply_places (sym n) ∙ at.1;
+      order_is = ap k.order_places (sym n) ∙ at;
     }
 
-pub place_is : {s : State} {places : List CallPlaces} {callers : Callers} {began : ℕ} (k : IsKept s places callers began) (call part place : ℕ) (order : PartOrder) → Stands s places k.order_places k.reply_places call
+pub place_is : {s : State} {places : List CallPlaces} {callers : Callers} {began : ℕ} (k : IsKept s places callers began) (call part place : ℕ) (order : PartOrder) → Stands s places k.order_places call
     → IsPlace s.first call part places order place → is_ordered order ≡ true → place ≡ k.order_places call + part
 place_is k call part place order st is o = is o st.at st.there ∙ ap (λ n. n + part) (sym st.order_is)
 
@@ -77,18 +74,16 @@ place_fits {s = s} {callers = callers} {caller = caller} {call = call} k small h
 
 pub kept_by : {s : State} {places : List CallPlaces} {callers : Callers} {began : ℕ} (e : Event) (next : State) (new : Callers) (k : IsKept s places callers began) → Happens s e next
     → (after e s).first ≡ s.first → length (after e s).calls ≡ length s.calls
-    → AreTied (after e s) k.order_places (λ caller. order_of caller new) → AreOwed (after e s) k.reply_places (λ caller. replies_of caller new)
+    → AreTied (after e s) k.order_places (λ caller. order_of caller new) → AreOwed (after e s) (λ caller. owed_of caller new)
     → ((caller : ℕ) → last_of caller new ≡ last_of caller callers) → ((caller : ℕ) → end_of (order_of caller new) ≤ began) → IsKept next places new began
 kept_by {s = s} {places = places} {began = began} e next new k h first count tied owed lasts short =
     let none : new_calls e ≡ 0 = omega (arith, begun_after e s h.may, first, count) in
     subst (λ t. IsKept t places new began) (sym h.is) (record {
       order_places = k.order_places;
-      reply_places = k.reply_places;
       count = k.count ∙ sym count;
       at = λ i p is.
           let n : (after e s).first + i ≡ s.first + i = omega (arith, first) in
-          let at = k.at i p is in
-          (ap k.order_places n ∙ at.0, ap k.reply_places n ∙ at.1);
+          ap k.order_places n ∙ k.at i p is;
       reached = reached_by s e k.reached h.may;
       tied = tied;
       owed = owed;
@@ -107,7 +102,7 @@ pub kept_quiet : {s : State} {places : List CallPlaces} {callers : Callers} {beg
 kept_quiet {callers = callers} e next k h quiet first count none wanted =
     kept_by e next callers k h first count
     (tied_quiet e (λ caller. order_of caller callers) k.tied h.may quiet (λ caller. refl))
-    (owed_kept e (λ caller. replies_of caller callers) k.owed h.may none (λ caller n held. wanted n) (same_owed (λ caller. replies_of caller callers) (λ caller. replies_of caller callers) (λ caller. refl)))
+    (owed_kept e (λ caller. owed_of caller callers) k.owed h.may none (λ caller n held. wanted n) (same_owed (λ caller. owed_of caller callers) (λ caller. owed_of caller callers) (λ caller. refl)))
     (λ caller. refl) k.short
 
 -- One part gets a status.
@@ -126,7 +121,7 @@ kept_part {callers = callers} {began = began} {caller = caller} {call = call} {p
     (by_test (is_ordered p.order)
     (λ o. tied_part e (λ c. order_of c new) st k.tied h.may steady only has o is (to o) goes.only.order)
     (λ f. tied_free e (λ c. order_of c new) k.tied h.may steady only has f (same f)))
-    (owed_kept e (λ c. replies_of c new) k.owed h.may (steady_new e steady) (λ c n held. wanted n) (same_owed (λ c. replies_of c callers) (λ c. replies_of c new) goes.only.replies))
+    (owed_kept e (λ c. owed_of c new) k.owed h.may (steady_new e steady) (λ c n held. wanted n) (same_owed (λ c. owed_of c callers) (λ c. owed_of c new) goes.only.owed))
     goes.only.last
     (λ other. elim (cases_eq other caller) [
       | inl own ↦ by_test (is_ordered p.order)
@@ -194,15 +189,14 @@ same_links_kept {places = places} {callers = callers} {began = began} s links k 
 
 -- ---- the start
 
-started : (callers : Callers) → ((caller : ℕ) → order_of caller callers ≡ no_order) → ((caller : ℕ) → replies_of caller callers ≡ no_replies) → ((caller : ℕ) → last_of caller callers ≡ None) → IsKept start [] callers 0
-started callers orders replies lasts = record {
+started : (callers : Callers) → ((caller : ℕ) → order_of caller callers ≡ no_order) → ((caller : ℕ) → owed_of caller callers ≡ no_owed) → ((caller : ℕ) → last_of caller callers ≡ None) → IsKept start [] callers 0
+started callers orders owed lasts = record {
   order_places = λ _. 0;
-  reply_places = λ _. 0;
   count = refl;
   at = λ i p is. absurd (cc);
   reached = reached_start;
   tied = tied_start (λ _. 0) (λ caller. order_of caller callers) orders;
-  owed = owed_start (λ _. 0) (λ caller. replies_of caller callers) replies;
+  owed = owed_start (λ caller. owed_of caller callers) owed;
   last = record {
     parts = λ caller call part p has. let no : None ≡ Some has.state = sym (not_begun call start (omega arith)) ∙ has.call_is in absurd (cc);
     wanted = λ call state is w. let no : None ≡ Some state = sym (not_begun call start (omega arith)) ∙ is in absurd (cc);
@@ -213,9 +207,9 @@ started callers orders replies lasts = record {
   fits = omega arith;
 }
 
-pub kept_start : (links : List (Option Channel)) (calls : List CallState) (places : List CallPlaces) (callers : Callers) → links ≡ [] → calls ≡ [] → places ≡ [] → ((caller : ℕ) → order_of caller callers ≡ no_order) → ((caller : ℕ) → replies_of caller callers ≡ no_replies) → ((caller : ℕ) → last_of caller callers ≡ None)
+pub kept_start : (links : List (Option Channel)) (calls : List CallState) (places : List CallPlaces) (callers : Callers) → links ≡ [] → calls ≡ [] → places ≡ [] → ((caller : ℕ) → order_of caller callers ≡ no_order) → ((caller : ℕ) → owed_of caller callers ≡ no_owed) → ((caller : ℕ) → last_of caller callers ≡ None)
     → IsKept (state_of links 0 calls) places callers 0
-kept_start links calls places callers no_links no_calls no_places orders replies lasts =
+kept_start links calls places callers no_links no_calls no_places orders owed lasts =
     subst (λ ls. IsKept (state_of ls 0 calls) places callers 0) (sym no_links)
     (subst (λ cs. IsKept (state_of [] 0 cs) places callers 0) (sym no_calls)
-    (subst (λ ps. IsKept (state_of [] 0 []) ps callers 0) (sym no_places) (started callers orders replies lasts)))
+    (subst (λ ps. IsKept (state_of [] 0 []) ps callers 0) (sym no_places) (started callers orders owed lasts)))

@@ -9,7 +9,7 @@ use Rattle.session_core.proofs.AfterEvents.{not_forgotten, new_calls}
 use Rattle.session_core.proofs.PlaceLists.{get_first_dropped}
 use Rattle.session_machine.specs.declared.caller.CallPlaces.{CallPlaces}
 use Rattle.session_machine.specs.declared.callers.Callers.{Callers}
-use Rattle.session_machine.specs.Callers.{order_of, replies_of, last_of, ForgetsAfter}
+use Rattle.session_machine.specs.Callers.{order_of, owed_of, last_of, ForgetsAfter}
 use Rattle.session_machine.specs.Kept.{AreLast}
 use Rattle.session_machine.specs.Ties.{AreTied, AreOwed}
 use Rattle.session_machine.proofs.Ties.Tied.{part_came, tied_orders, tied_without}
@@ -100,13 +100,13 @@ module _ {s : State} {places : List CallPlaces} (old new : Callers) (at : CallPl
         gone.1.order gone.1.others.order
   ]
 
-  pub owed_still : {reply_places : ℕ → ℕ} → AreOwed (after Trim s) reply_places (λ c. replies_of c old) → AreOwed (after Trim s) reply_places (λ c. replies_of c new)
+  pub owed_still : AreOwed (after Trim s) (λ c. owed_of c old) → AreOwed (after Trim s) (λ c. owed_of c new)
   owed_still o = elim goes [
-    | inr same ↦ owed_same (λ c. replies_of c new) o (same_owed (λ c. replies_of c old) (λ c. replies_of c new) (λ c. ap (replies_of c) same.1))
-    | inl gone ↦ owed_without at.caller (λ c. replies_of c new) o
+    | inr same ↦ owed_same (λ c. owed_of c new) o (same_owed (λ c. owed_of c old) (λ c. owed_of c new) (λ c. ap (owed_of c) same.1))
+    | inl gone ↦ owed_without at.caller (λ c. owed_of c new) o
         (λ call held.
         let r = of_wanted at.caller call held in
         let is : r.0 ≡ s.first = same_Some r.0 s.first (sym r.1 ∙ gone.0) in
         omega (arith, is, r.2, r.3))
-        gone.1.replies gone.1.others.replies
+        gone.1.owed gone.1.others.owed
   ]

@@ -1,17 +1,16 @@
 -- The parts of a call are forgotten.
 use Rattle.std.proofs.Common.{arith, inl, inr, ◌<◌, ◌≡◌, ◌≤◌, ◌+◌, ◌-◌, ℕ, true, false, List, length, Some, refl, sym, ap, ◌∙◌, subst}
-use Rattle.std.specs.List.{slice_get, list_all}
+use Rattle.std.specs.List.{list_all}
 use Rattle.resp_core.proofs.Cases.{by_test}
 use Rattle.session_core.specs.declared.part.PartOrder.{PartOrder}
-use Rattle.session_core.specs.declared.replies.OwedReply.{OwedReply}
 use Rattle.session_core.specs.Order.{IsTrimmed}
 use Rattle.session_core.specs.Part.{is_done}
 use Rattle.session_core.specs.State.{State, CallState, Leave, numbered, call_at, call_after, link_after, left_call, IsTurn, MayLeave, Happens}
 use Rattle.session_core.proofs.AfterEvents.{length-numbered, all_at, same_call}
 use Rattle.session_machine.specs.declared.caller.CallPlaces.{CallPlaces}
 use Rattle.session_machine.specs.declared.callers.Callers.{Callers}
-use Rattle.session_machine.specs.Callers.{order_of, replies_of}
-use Rattle.session_machine.specs.Ties.{is_ordered}
+use Rattle.session_machine.specs.Callers.{order_of, owed_of}
+use Rattle.session_machine.specs.Ties.{is_ordered, is_owed}
 use Rattle.session_machine.proofs.Ties.Leaves.{IsPast, past_by_last, past_free, tied_left}
 use Rattle.session_machine.proofs.Ties.Owed.{turn_by, turn_above, same_owed, owed_kept}
 use Rattle.session_machine.specs.Calls.{with_call}
@@ -31,7 +30,7 @@ use Rattle.session_machine.proofs.Ties.GiveUps.{part_of, part_within}
 
 module _ {places : List CallPlaces} {callers : Callers} {began : ℕ} (s : State) (k : IsKept s places callers began) (call : ℕ) (state : CallState) (order : PartOrder) (place : ℕ) (calls : List CallState)
     (call_is : call_at call s ≡ Some state) (unwanted : state.is_wanted ≡ false) (done : list_all (λ p. is_done p.phase) state.parts ≡ true)
-    (next : (first : OwedReply) → slice_get (replies_of state.caller callers).owed 0 ≡ Some first → call ≤ first.number) (calls_are : calls ≡ with_call call s.first (λ _. left_call) s.calls) where
+    (next : (other : ℕ) → is_owed other (owed_of state.caller callers) ≡ true → call ≤ other) (calls_are : calls ≡ with_call call s.first (λ _. left_call) s.calls) where
   leave_may : MayLeave call s
   leave_may = record { state = state; call_is = call_is; unwanted = unwanted; done = done; turn = turn_by state.caller call k.owed next }
 
@@ -56,18 +55,18 @@ module _ {places : List CallPlaces} {callers : Callers} {began : ℕ} (s : State
   leave_kept first at gone =
       kept_by (Leave call) (state_of s.links s.first calls) callers k (leave_happens s refl) refl (length-numbered (call_after (Leave call)) s.first s.calls)
       (tied_left call (λ c. order_of c callers) k.tied leave_may (past first at gone) (λ c. refl))
-      (owed_kept (Leave call) (λ c. replies_of c callers) k.owed leave_may refl (λ c n held. refl) (same_owed (λ c. replies_of c callers) (λ c. replies_of c callers) (λ c. refl)))
+      (owed_kept (Leave call) (λ c. owed_of c callers) k.owed leave_may refl (λ c n held. refl) (same_owed (λ c. owed_of c callers) (λ c. owed_of c callers) (λ c. refl)))
       (λ c. refl) k.short
 
 -- ---- why it does not leave
 
-pub not_before : {places : List CallPlaces} {callers : Callers} {began : ℕ} (s now : State) (k : IsKept s places callers began) (call : ℕ) (state : CallState) (first : OwedReply) → s ≡ now → call_at call s ≡ Some state → MayLeave call now
-    → slice_get (replies_of state.caller callers).owed 0 ≡ Some first → first.number < call → ⊥
-not_before s now k call state first e call_is may is before =
+pub not_before : {places : List CallPlaces} {callers : Callers} {began : ℕ} (s now : State) (k : IsKept s places callers began) (call : ℕ) (state : CallState) (earlier : ℕ) → s ≡ now → call_at call s ≡ Some state → MayLeave call now
+    → is_owed earlier (owed_of state.caller callers) ≡ true → earlier < call → ⊥
+not_before s now k call state earlier e call_is may is before =
     let m = subst (λ t. MayLeave call t) (sym e) may in
     let same : m.state ≡ state = same_Some m.state state (sym m.call_is ∙ call_is) in
     let turn = subst (λ (c : CallState). IsTurn s c.caller call) same m.turn in
-    let le = turn_above state.caller call first k.owed turn is in
+    let le = turn_above state.caller call earlier k.owed turn is in
     omega (arith, le, before)
 
 -- The last part stands in the order still: the first one that is left there is not done, and of an earlier call.

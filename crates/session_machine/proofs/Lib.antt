@@ -1,5 +1,5 @@
 pub mod Ties
-pub mod OwedReplies
+pub mod OwedSets
 pub mod CallerMaps
 pub mod GivenUp
 pub mod Prefixes

@@ -7,7 +7,7 @@ use Rattle.session_core.specs.State.{State, CallState, Trim, left_call, Has, Hap
 use Rattle.session_core.proofs.PlaceLists.{get_first_dropped}
 use Rattle.session_machine.specs.declared.caller.CallPlaces.{CallPlaces}
 use Rattle.session_machine.specs.declared.callers.Callers.{Callers}
-use Rattle.session_machine.specs.Callers.{order_of, replies_of, last_of, ForgetsAfter}
+use Rattle.session_machine.specs.Callers.{order_of, owed_of, last_of, ForgetsAfter}
 use Rattle.session_machine.specs.Ties.{AreTied, AreOwed, end_of}
 use Rattle.session_machine.proofs.Ties.Leaves.{tied_trimmed}
 use Rattle.session_machine.proofs.Ties.Owed.{same_owed, owed_kept}
@@ -38,19 +38,17 @@ trim_kept {places = places} {callers = callers} {began = began} s front first ca
     let both : length less ≡ length places - 1 = ap length fewer ∙ (let n : length (drop 1 places) ≡ length places - 1 = omega (arith, length-drop 1 places) in n) in
     record {
       order_places = k.order_places;
-      reply_places = k.reply_places;
       count = omega (arith, many, both, k.count);
       at = λ i p e.
           let old : slice_get places (suc i) ≡ Some p = sym (get_first_dropped places i) ∙ ap (λ (ps : List CallPlaces). slice_get ps i) (sym fewer) ∙ e in
-          let stood = k.at (suc i) p old in
           let n : first + i ≡ s.first + suc i = omega (arith, next) in
-          (ap k.order_places n ∙ stood.0, ap k.reply_places n ∙ stood.1);
+          ap k.order_places n ∙ k.at (suc i) p old;
       reached = reached_after s (state_of s.links first calls) Trim k.reached h;
       tied = subst (λ t. AreTied t k.order_places (λ c. order_of c new)) (sym h.is)
           (tied_still callers new at k.last h.may place goes (tied_trimmed (λ c. order_of c callers) k.tied h.may (λ c. refl)));
-      owed = subst (λ t. AreOwed t k.reply_places (λ c. replies_of c new)) (sym h.is)
+      owed = subst (λ t. AreOwed t (λ c. owed_of c new)) (sym h.is)
           (owed_still callers new at k.last h.may place goes
-          (owed_kept Trim (λ c. replies_of c callers) k.owed h.may refl (λ c n held. refl) (same_owed (λ c. replies_of c callers) (λ c. replies_of c callers) (λ c. refl))));
+          (owed_kept Trim (λ c. owed_of c callers) k.owed h.may refl (λ c n held. refl) (same_owed (λ c. owed_of c callers) (λ c. owed_of c callers) (λ c. refl))));
       last = subst (λ t. AreLast t less (λ c. last_of c new)) (sym h.is) (subst (λ ps. AreLast (after Trim s) ps (λ c. last_of c new)) (sym fewer) (last_trimmed callers new at k.last h.may place goes));
       some = λ caller call part p has.
           let c = part_came {e = Trim} h.may refl (subst (λ t. Has t caller call part p) h.is has) in

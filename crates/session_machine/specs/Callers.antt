@@ -4,7 +4,8 @@ use Rattle.std.specs.Option.{unwrap_or, option_map}
 use Rattle.std.specs.Ordering.{nat_cmp}
 use Rattle.std.specs.BTreeMap.{get}
 use Rattle.session_core.specs.Order.{Order, no_order}
-use Rattle.session_core.specs.Replies.{Replies, no_replies}
+use Rattle.std.specs.BTreeSet.{BTreeSet}
+use Rattle.session_machine.specs.Ties.{no_owed, is_owed}
 use Rattle.session_machine.specs.Caller.{no_calls}
 use Rattle.session_machine.specs.declared.caller.Caller.{Caller}
 use Rattle.session_machine.specs.declared.callers.Callers.{Callers}
@@ -18,8 +19,8 @@ unfoldable pub order_of : ℕ → Callers → Order
 order_of caller callers = (caller_of caller callers).order
 
 -- which of its calls are owed a reply
-unfoldable pub replies_of : ℕ → Callers → Replies
-replies_of caller callers = (caller_of caller callers).replies
+unfoldable pub owed_of : ℕ → Callers → BTreeSet ℕ
+owed_of caller callers = (caller_of caller callers).owed
 
 -- the number of its last call, if something is kept of it
 unfoldable pub last_of : ℕ → Callers → Option ℕ
@@ -28,32 +29,31 @@ last_of caller callers = option_map (λ (c : Caller). c.last) (get nat_cmp calle
 -- Every other caller has the same order and the same last call, and is owed the same replies.
 pub record OthersKept (caller : ℕ) (old new : Callers) : Type 0 where
   pub order : (other : ℕ) → other ≢ caller → order_of other new ≡ order_of other old
-  pub replies : (other : ℕ) → other ≢ caller → replies_of other new ≡ replies_of other old
+  pub owed : (other : ℕ) → other ≢ caller → owed_of other new ≡ owed_of other old
   pub last : (other : ℕ) → other ≢ caller → last_of other new ≡ last_of other old
 
 -- Nothing but the order of this caller changes.
 pub record OnlyOrder (caller : ℕ) (old new : Callers) : Type 0 where
   pub order : (other : ℕ) → other ≢ caller → order_of other new ≡ order_of other old
-  pub replies : (other : ℕ) → replies_of other new ≡ replies_of other old
+  pub owed : (other : ℕ) → owed_of other new ≡ owed_of other old
   pub last : (other : ℕ) → last_of other new ≡ last_of other old
 
--- Nothing but the replies to this caller changes.
-pub record OnlyReplies (caller : ℕ) (old new : Callers) : Type 0 where
+-- Nothing but what replies this caller is owed changes.
+pub record OnlyOwed (caller : ℕ) (old new : Callers) : Type 0 where
   pub order : (other : ℕ) → order_of other new ≡ order_of other old
-  pub replies : (other : ℕ) → other ≢ caller → replies_of other new ≡ replies_of other old
+  pub owed : (other : ℕ) → other ≢ caller → owed_of other new ≡ owed_of other old
   pub last : (other : ℕ) → last_of other new ≡ last_of other old
 
--- Each caller has the same parts and the same last call, and is owed the same replies. A place of a reply
--- may be skipped.
+-- Each caller has the same parts and the same last call, and is owed the same replies.
 pub record CallsKept (old new : Callers) : Type 0 where
   pub order : (caller : ℕ) → order_of caller new ≡ order_of caller old
-  pub owed : (caller : ℕ) → (replies_of caller new).owed ≡ (replies_of caller old).owed
+  pub owed : (caller call : ℕ) → is_owed call (owed_of caller new) ≡ is_owed call (owed_of caller old)
   pub last : (caller : ℕ) → last_of caller new ≡ last_of caller old
 
 -- Nothing is kept of this caller any more.
 pub record IsForgotten (caller : ℕ) (old new : Callers) : Type 0 where
   pub order : order_of caller new ≡ no_order
-  pub replies : replies_of caller new ≡ no_replies
+  pub owed : owed_of caller new ≡ no_owed
   pub last : last_of caller new ≡ None
   pub others : OthersKept caller old new
 

@@ -10,7 +10,7 @@ use Rattle.session_machine.specs.Calls.{call_in}
 use Rattle.session_machine.specs.Ties.{AreTied, AreOwed, IsReached, OrderGoes, gets, given_up, is_ordered, status_of, end_of}
 use Rattle.session_machine.specs.declared.caller.CallPlaces.{CallPlaces}
 use Rattle.session_machine.specs.declared.callers.Callers.{Callers}
-use Rattle.session_machine.specs.Callers.{order_of, replies_of, last_of, OnlyOrder}
+use Rattle.session_machine.specs.Callers.{order_of, owed_of, last_of, OnlyOrder}
 
 -- The number of the last call of each caller of which something is kept.
 pub record AreLast (s : State) (places : List CallPlaces) (lasts : ℕ → Option ℕ) : Type 0 where
@@ -24,17 +24,16 @@ pub record AreLast (s : State) (places : List CallPlaces) (lasts : ℕ → Optio
   pub there : (caller last : ℕ) → lasts caller ≡ Some last
       → (at : CallPlaces) × (s.first ≤ last) × (slice_get places (last - s.first) ≡ Some at) × (at.caller ≡ caller)
 
--- Events led to the state. Each call stands at its places in the order and the replies of its caller. So
--- many parts began in all.
+-- Events led to the state. Each call stands at its place in the order of its caller. So many parts began in
+-- all.
 pub record IsKept (s : State) (places : List CallPlaces) (callers : Callers) (began : ℕ) : Type 0 where
   pub order_places : ℕ → ℕ
-  pub reply_places : ℕ → ℕ
   pub count : length places ≡ length s.calls
   pub at : (i : ℕ) (p : CallPlaces) → slice_get places i ≡ Some p
-      → (order_places (s.first + i) ≡ p.order) × (reply_places (s.first + i) ≡ p.reply)
+      → order_places (s.first + i) ≡ p.order
   pub reached : IsReached s
   pub tied : AreTied s order_places (λ caller. order_of caller callers)
-  pub owed : AreOwed s reply_places (λ caller. replies_of caller callers)
+  pub owed : AreOwed s (λ caller. owed_of caller callers)
   pub last : AreLast s places (λ caller. last_of caller callers)
   pub some : (caller call part : ℕ) (p : PartState) → Has s caller call part p → 0 < length p.request
   -- no place wraps

@@ -1,15 +1,15 @@
 -- How the parts of calls stand in the orders of their callers, and which replies callers are owed.
-use Rattle.std.specs.Prelude.{◌≡◌, ◌+◌, ◌<◌, ◌≤◌, ◌==◌, ◌&&◌, ℕ, Bool, true, false, if◌then◌else◌, List, length, nat_lt, nat_le, Some, slice_get, Contains, option_map}
+use Rattle.std.specs.Prelude.{◌≡◌, ◌+◌, ◌<◌, ◌≤◌, ◌==◌, ◌&&◌, ℕ, Bool, true, false, if◌then◌else◌, List, length, nat_lt, nat_le, Some, slice_get, [], option_map}
+use Rattle.std.specs.Ordering.{nat_cmp}
+use Rattle.std.specs.BTreeSet.{BTreeSet, contains}
 use Rattle.session_core.specs.declared.ordered_part.OrderedPart.{OrderedPart}
 use Rattle.session_core.specs.declared.ordered_part.Status.{Status}
 use Rattle.session_core.specs.declared.ordered_part.Status.TheVariants as status
 use Rattle.session_core.specs.declared.part.PartOrder.{PartOrder}
 use Rattle.session_core.specs.declared.part.PartOrder.TheVariants.{Free}
-use Rattle.session_core.specs.declared.replies.OwedReply.{OwedReply}
 use Rattle.session_core.specs.Order.{Order, ordered_at, is_done}
 use Rattle.session_core.specs.Part.{Phase, PartState, Waits, Asked, Answered, Lost, Refused, Unsent}
 use Rattle.session_core.specs.Part.{is_done as part_done}
-use Rattle.session_core.specs.Replies.{Replies}
 use Rattle.session_core.specs.State.{State, CallState, Event, Begin, Leave, Trim, Has, Run, start, call_at}
 
 -- the status of a part in the order of its caller
@@ -107,12 +107,23 @@ pub record OrderGoes (change : ℕ → Status → Status) (old new : Order) : Ty
   pub kept : (at : ℕ) → new.first ≤ at
       → ordered_at at new ≡ option_map (restated (change at)) (ordered_at at old)
 
--- A caller is owed a reply to each of its calls that is wanted, in their order, and to no other.
-pub record AreOwed (s : State) (places : ℕ → ℕ) (replies : ℕ → Replies) : Type 0 where
+-- ---- which replies a caller is owed, by the numbers of its calls
+
+abbrev pub no_owed : BTreeSet ℕ
+no_owed = record { keys = [] }
+
+-- the reply to this call is owed
+abbrev pub is_owed : ℕ → BTreeSet ℕ → Bool
+is_owed call owed = contains nat_cmp owed call
+
+-- The reply to this call is owed, and none to an earlier one.
+pub record IsFirstOwed (call : ℕ) (owed : BTreeSet ℕ) : Type 0 where
+  pub is : is_owed call owed ≡ true
+  pub least : (other : ℕ) → is_owed other owed ≡ true → call ≤ other
+
+-- A caller is owed a reply to each of its calls that is wanted, and to no other.
+pub record AreOwed (s : State) (owed : ℕ → BTreeSet ℕ) : Type 0 where
   pub wanted : (call : ℕ) (state : CallState) → call_at call s ≡ Some state → state.is_wanted ≡ true
-      → Contains (replies state.caller).owed (record { place = places call; number = call })
-  pub comes : (caller : ℕ) (reply : OwedReply) → Contains (replies caller).owed reply
-      → (state : CallState) × (call_at reply.number s ≡ Some state) × (state.caller ≡ caller)
-      × (state.is_wanted ≡ true) × (reply.place ≡ places reply.number)
-  pub rising : (caller i j : ℕ) (a b : OwedReply) → i < j → slice_get (replies caller).owed i ≡ Some a
-      → slice_get (replies caller).owed j ≡ Some b → (a.number < b.number) × (a.place < b.place)
+      → is_owed call (owed state.caller) ≡ true
+  pub comes : (caller call : ℕ) → is_owed call (owed caller) ≡ true
+      → (state : CallState) × (call_at call s ≡ Some state) × (state.caller ≡ caller) × (state.is_wanted ≡ true)

@@ -1,13 +1,15 @@
 //! One caller of a session.
 
-ghost use Rattle.std.specs.Prelude.{◌≡◌, IfOk, OnOk, OnErr};
+ghost use Rattle.std.specs.Prelude.{◌≡◌, true, false, IfOk, OnOk, OnErr};
+ghost use Rattle.std.specs.Ordering.{nat_cmp};
+ghost use Rattle.std.specs.BTreeSet.{Updates};
 ghost use Rattle.session_core.specs.Order.{MayJoin, joined};
-ghost use Rattle.session_core.specs.Replies.{owes, HaveBegun};
-ghost use Rattle.session_machine.specs.Ties.{end_of};
+ghost use Rattle.session_machine.specs.Ties.{end_of, is_owed};
 ghost use Rattle.session_machine.specs.Caller.{no_calls, KeepsCalls};
 
-use session_core::{CallerOrder, PartOrder, Replies};
+use session_core::{CallerOrder, PartOrder};
 use std::alloc::{AllocError, Global};
+use std::collections::BTreeSet;
 
 /// The caller of a call, and where the call stands among those of its caller.
 #[derive(Debug, Clone, Copy)]
@@ -16,15 +18,14 @@ pub(crate) struct CallPlaces {
     pub(crate) caller: u64,
     /// The place of its first part in the order of its caller.
     pub(crate) order: u64,
-    /// The place of its reply.
-    pub(crate) reply: u64,
 }
 
-/// One caller: its parts in the order of its calls, and the replies that it is owed.
+/// One caller: its parts in the order of its calls, and the calls that are owed a reply.
 #[derive(Drop)]
 pub(crate) struct Caller {
     pub(crate) order: CallerOrder,
-    pub(crate) replies: Replies,
+    /// The numbers of the calls that are owed a reply. They rise in the order of the calls.
+    pub(crate) owed: BTreeSet<u64>,
     /// The number of its last call.
     pub(crate) last: u64,
 }
@@ -36,7 +37,7 @@ impl Caller {
     {
         Caller {
             order: CallerOrder::new(alloc),
-            replies: Replies::new(alloc),
+            owed: BTreeSet::new(alloc),
             last: 0,
         }
     }
@@ -45,7 +46,7 @@ impl Caller {
     ///
     /// # Errors
     ///
-    /// If memory runs out. No part joins then, and no more replies are owed, but a place may be skipped.
+    /// If memory runs out. No part joins then, and no more replies are owed.
     pub(crate) fn begin(
         &mut self,
         alloc: Global,
@@ -53,27 +54,22 @@ impl Caller {
         number: u64,
         orders: &[PartOrder],
     ) -> Result<CallPlaces, AllocError>
-        requires { MayJoin number orders.now self.old.order }
+        requires joins { MayJoin number orders.now self.old.order }
+        requires is_new { is_owed number self.old.owed ≡ false }
         ensures caller { IfOk result (λ places. places.caller ≡ caller) }
         ensures place { IfOk result (λ places. places.order ≡ end_of self.old.order) }
-        ensures reply { IfOk result (λ places. places.reply ≡ self.old.replies.next_place) }
         ensures joined { OnOk result (self.new.order ≡ joined number orders.now self.old.order) }
-        ensures owed { OnOk result (self.new.replies ≡ owes number self.old.replies) }
-        ensures begun { OnOk result (HaveBegun self.old.replies) }
+        ensures owed { OnOk result (Updates nat_cmp self.old.owed self.new.owed number true) }
         ensures last { OnOk result (self.new.last ≡ number) }
         ensures err { OnErr result (KeepsCalls self.old self.new) }
     {
         let order = self.order.end();
-        let reply = self.replies.begin(number)?;
+        self.owed.insert(number)?;
         if let Err(error) = self.order.join(alloc, number, orders) {
-            self.replies.note_over(reply);
+            self.owed.remove(&number);
             return Err(error);
         }
         self.last = number;
-        Ok(CallPlaces {
-            caller,
-            order,
-            reply,
-        })
+        Ok(CallPlaces { caller, order })
     }
 }

@@ -3,23 +3,22 @@
 ghost use Rattle.std.specs.Prelude.{◌≡◌, ◌+◌, ◌<◌, ◌≤◌, ℕ, true, false, Some, None, IfOk, OnOk, OnErr, IfSome, IfNone, slice_get};
 ghost use Rattle.std.specs.Ordering.{nat_cmp};
 ghost use Rattle.std.specs.BTreeMap.{get};
+ghost use Rattle.std.specs.BTreeSet.{Updates};
 ghost use Rattle.session_core.specs.declared.ordered_part.Status.TheVariants.{Waits, Asked, Settled, Unsent};
 ghost use Rattle.session_core.specs.Order.{no_order, IsTrimmed, MayAsk, MayJoin, IsOf, Offers, NamesWaiting, IsWaiting, IsOnItsWay, IsOvertaken, joined, with_status, trimmed};
-ghost use Rattle.session_core.specs.Replies.{no_replies, owes, without_place, HaveBegun, IsOwed};
-ghost use Rattle.session_machine.specs.Ties.{end_of, given_up, OrderGoes};
-ghost use Rattle.session_machine.specs.Callers.{order_of, replies_of, last_of, OthersKept, OnlyOrder, OnlyReplies, CallsKept, ForgetsAfter};
+ghost use Rattle.session_machine.specs.Ties.{end_of, given_up, is_owed, no_owed, IsFirstOwed, OrderGoes};
+ghost use Rattle.session_machine.specs.Callers.{order_of, owed_of, last_of, OthersKept, OnlyOrder, OnlyOwed, CallsKept, ForgetsAfter};
 
 use crate::caller::{CallPlaces, Caller};
 use crate::giving_up::give_up;
-use session_core::{Askable, CallerOrder, Overtaken, OwedReply, PartOrder};
+use session_core::{Askable, CallerOrder, Overtaken, PartOrder};
 use std::alloc::{AllocError, Global};
-use std::collections::BTreeMap;
+use std::collections::{BTreeMap, BTreeSet};
 
 /// The callers of a session, by the numbers that its users choose for them.
 ///
-/// Each has its own order of parts ([`CallerOrder`]) and its own replies that it is owed
-/// ([`session_core::Replies`]). A number that was not used yet, or was forgotten, is a caller without
-/// calls.
+/// Each has its own order of parts ([`CallerOrder`]) and its own calls that are owed a reply. A number
+/// that was not used yet, or was forgotten, is a caller without calls.
 ///
 /// A call takes a time that grows with the logarithm of the number of callers and of the parts of one,
 /// averaged over the calls.
@@ -32,7 +31,7 @@ impl Callers {
     /// No caller made a call yet.
     pub(crate) fn new(alloc: Global) -> Callers
         ensures order { (caller : ℕ) → order_of caller result ≡ no_order }
-        ensures replies { (caller : ℕ) → replies_of caller result ≡ no_replies }
+        ensures owed { (caller : ℕ) → owed_of caller result ≡ no_owed }
         ensures last { (caller : ℕ) → last_of caller result ≡ None }
     {
         Callers {
@@ -45,8 +44,8 @@ impl Callers {
     ///
     /// # Errors
     ///
-    /// If memory runs out, or 2^64 - 1 calls of the caller began, or 2^64 - 1 parts of it joined. No part
-    /// joins then, and no more replies are owed. A place of a reply may be skipped.
+    /// If memory runs out, or 2^64 - 1 parts of the caller joined. No part joins then, and no more
+    /// replies are owed.
     pub(crate) fn begin(
         &mut self,
         alloc: Global,
@@ -54,13 +53,12 @@ impl Callers {
         number: u64,
         orders: &[PartOrder],
     ) -> Result<CallPlaces, AllocError>
-        requires { MayJoin number orders.now (order_of caller self.old) }
+        requires joins { MayJoin number orders.now (order_of caller self.old) }
+        requires is_new { is_owed number (owed_of caller self.old) ≡ false }
         ensures caller { IfOk result (λ places. places.caller ≡ caller) }
         ensures place { IfOk result (λ places. places.order ≡ end_of (order_of caller self.old)) }
-        ensures reply { IfOk result (λ places. places.reply ≡ (replies_of caller self.old).next_place) }
         ensures joined { OnOk result (order_of caller self.new ≡ joined number orders.now (order_of caller self.old)) }
-        ensures owed { OnOk result (replies_of caller self.new ≡ owes number (replies_of caller self.old)) }
-        ensures begun { OnOk result (HaveBegun (replies_of caller self.old)) }
+        ensures owed { OnOk result (Updates nat_cmp (owed_of caller self.old) (owed_of caller self.new) number true) }
         ensures last { OnOk result (last_of caller self.new ≡ Some number) }
         ensures others { OthersKept caller self.old self.new }
         ensures err { OnErr result (CallsKept self.old self.new) }
@@ -198,23 +196,24 @@ impl Callers {
     }
 
     /// The call whose reply to a caller is next, if any is owed.
-    pub(crate) fn next_reply(&self, caller: u64) -> Option<OwedReply>
-        ensures { result ≡ slice_get (replies_of caller self.now).owed 0 }
+    pub(crate) fn next_reply(&self, caller: u64) -> Option<u64>
+        ensures some { IfSome result (λ call. IsFirstOwed call (owed_of caller self.now)) }
+        ensures none { IfNone result ((call : ℕ) → is_owed call (owed_of caller self.now) ≡ false) }
     {
         match self.callers.get(&caller) {
-            Some(entry) => entry.replies.next_reply(),
+            Some(entry) => first_owed(&entry.owed),
             None => None,
         }
     }
 
     /// Notes that a call is owed no reply any more: its reply went out, or it was given up.
-    pub(crate) fn note_over(&mut self, caller: u64, place: u64)
-        requires { IsOwed place (replies_of caller self.old) }
-        ensures owed { (replies_of caller self.new).owed ≡ without_place place (replies_of caller self.old).owed }
-        ensures only { OnlyReplies caller self.old self.new }
+    pub(crate) fn note_over(&mut self, caller: u64, call: u64)
+        requires { is_owed call (owed_of caller self.old) ≡ true }
+        ensures owed { Updates nat_cmp (owed_of caller self.old) (owed_of caller self.new) call false }
+        ensures only { OnlyOwed caller self.old self.new }
     {
         if let Some(entry) = self.callers.get_mut(&caller) {
-            entry.replies.note_over(place);
+            entry.owed.remove(&call);
         }
     }
 
@@ -262,10 +261,8 @@ impl Callers {
         requires joins { MayJoin number orders.now (order_of caller self.old) }
         ensures caller { IfOk result (λ places. places.caller ≡ caller) }
         ensures place { IfOk result (λ places. places.order ≡ end_of (order_of caller self.old)) }
-        ensures reply { IfOk result (λ places. places.reply ≡ (replies_of caller self.old).next_place) }
         ensures joined { OnOk result (order_of caller self.new ≡ joined number orders.now (order_of caller self.old)) }
-        ensures owed { OnOk result (replies_of caller self.new ≡ owes number (replies_of caller self.old)) }
-        ensures begun { OnOk result (HaveBegun (replies_of caller self.old)) }
+        ensures owed { OnOk result (Updates nat_cmp (owed_of caller self.old) (owed_of caller self.new) number true) }
         ensures last { OnOk result (last_of caller self.new ≡ Some number) }
         ensures others { OthersKept caller self.old self.new }
         ensures err { OnErr result (CallsKept self.old self.new) }
@@ -274,5 +271,16 @@ impl Callers {
         let places = entry.begin(alloc, caller, number, orders)?;
         self.callers.insert(caller, entry)?;
         Ok(places)
+    }
+}
+
+/// The first call of those that are owed a reply.
+fn first_owed(owed: &BTreeSet<u64>) -> Option<u64>
+    ensures some { IfSome result (λ call. IsFirstOwed call owed.now) }
+    ensures none { IfNone result ((call : ℕ) → is_owed call owed.now ≡ false) }
+{
+    match owed.first() {
+        Some(call) => Some(*call),
+        None => None,
     }
 }

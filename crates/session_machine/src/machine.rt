@@ -21,7 +21,7 @@ use crate::links::Links;
 use crate::part::Part;
 use crate::part_places::{
     first_order, is_offered, is_past, note_asked, note_given_up, note_unsent, ordered_place,
-    orders_of, owes_before, place_of, reply_place,
+    orders_of, owes_before, place_of,
 };
 use crate::took::Took;
 use crate::{calls, telling};
@@ -266,10 +266,9 @@ impl Machine {
         let count = state.parts().len();
         let order = first_order(state);
         let place = place_of(self.first, &self.places, call, 0, order);
-        let reply = reply_place(self.first, &self.places, call);
         calls::give_up(self.first, &mut self.calls, call);
         note_given_up(&mut self.callers, caller, place, count, order);
-        self.callers.note_over(caller, reply);
+        self.callers.note_over(caller, call);
         true
     }
 
@@ -531,11 +530,11 @@ impl Machine {
         let Some(next) = self.callers.next_reply(caller) else {
             return false;
         };
-        if next.number != call {
+        if next != call {
             return false;
         }
         calls::note_replied(self.first, &mut self.calls, call);
-        self.callers.note_over(caller, next.place);
+        self.callers.note_over(caller, next);
         true
     }
 
@@ -546,10 +545,7 @@ impl Machine {
         ensures none { IfNone result ((call : ℕ) (state : CallState) → call_at call self.now ≡ Some state
             → state.caller ≡ caller → state.is_wanted ≡ true → ⊥) }
     {
-        match self.callers.next_reply(caller) {
-            Some(next) => Some(next.number),
-            None => None,
-        }
+        self.callers.next_reply(caller)
     }
 
     /// Notes that a part that waits is not asked any more, for this cause.

@@ -4,11 +4,10 @@ ghost use Rattle.std.specs.Prelude.{◌≡◌, ◌+◌, ◌-◌, ◌^◌, ◌<�
 ghost use Rattle.session_core.specs.declared.ordered_part.Status.TheVariants.{Waits, Asked, Unsent};
 ghost use Rattle.session_core.specs.Order.{MayAsk, OnLink, IsTrimmed, IsWaiting, IsOnItsWay, with_status, trimmed};
 ghost use Rattle.session_core.specs.declared.part.PartOrder.TheVariants.{Free};
-ghost use Rattle.session_core.specs.declared.replies.OwedReply.{OwedReply};
 ghost use Rattle.session_core.specs.Part.{PartState};
-ghost use Rattle.session_machine.specs.Ties.{is_ordered, end_of};
+ghost use Rattle.session_machine.specs.Ties.{is_ordered, is_owed, end_of};
 ghost use Rattle.session_machine.specs.declared.caller.CallPlaces.{CallPlaces};
-ghost use Rattle.session_machine.specs.Callers.{order_of, replies_of, OnlyOrder};
+ghost use Rattle.session_machine.specs.Callers.{order_of, owed_of, OnlyOrder};
 ghost use Rattle.session_machine.specs.Begun.{ordered_of};
 ghost use Rattle.session_machine.specs.Kept.{PartGoes, CallGoes, CanFollow, Follows};
 
@@ -210,14 +209,6 @@ pub(crate) fn first_order(state: &Call) -> PartOrder
     }
 }
 
-/// The place of the reply to a call among those of its caller.
-pub(crate) fn reply_place(first: u64, places: &VecDeque<CallPlaces>, call: u64) -> u64
-    requires { (first ≤ call) × (call - first < length places.now.items) }
-    ensures { (at : CallPlaces) → slice_get places.now.items (call - first) ≡ Some at → result ≡ at.reply }
-{
-    places[(call - first) as usize].reply
-}
-
 /// Notes that the parts of a call that wait will not be asked any more.
 pub(crate) fn note_given_up(
     callers: &mut Callers,
@@ -249,13 +240,11 @@ pub(crate) fn is_past(callers: &Callers, caller: u64, place: u64, order: PartOrd
 
 /// Whether a caller is owed a reply to an earlier call than this.
 pub(crate) fn owes_before(callers: &Callers, caller: u64, call: u64) -> bool
-    ensures yes { result ≡ true → (first : OwedReply)
-        × (slice_get (replies_of caller callers.now).owed 0 ≡ Some first) × (first.number < call) }
-    ensures no { result ≡ false → (first : OwedReply) → slice_get (replies_of caller callers.now).owed 0 ≡ Some first
-        → call ≤ first.number }
+    ensures yes { result ≡ true → (earlier : ℕ) × (is_owed earlier (owed_of caller callers.now) ≡ true) × (earlier < call) }
+    ensures no { result ≡ false → (other : ℕ) → is_owed other (owed_of caller callers.now) ≡ true → call ≤ other }
 {
     match callers.next_reply(caller) {
-        Some(next) => next.number < call,
+        Some(next) => next < call,
         None => false,
     }
 }

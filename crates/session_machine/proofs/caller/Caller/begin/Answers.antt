@@ -1,15 +1,14 @@
 use Rattle.std.proofs.Common.{refl}
-use Rattle.session_machine.proofs.OwedReplies.{owed_last, taken_back}
+use Rattle.session_core.proofs.LinkSteps.{for_err}
+use Rattle.session_machine.proofs.OwedSets.{same_keys, taken_back}
 use Rattle.session_machine.proofs.caller.Caller.begin.Goals as goal
 
-pub note_over-requires : goal.note_over-requires
-note_over-requires c = owed_last c.args.number c.in_ok-reply.reply c.args.self.now.replies c.begin.new.self c.in_ok-reply.ensures.place c.in_ok-reply.ensures.owed
+pub returns-in_err-insert-clause-err : goal.returns-in_err-insert-clause-err
+returns-in_err-insert-clause-err c = for_err c.from_residual.result (record { order = refl; owed = λ call. same_keys call c.args.self.now.owed c.insert.new.self c.in_err-insert.ensures.err; last = refl })
 
 pub returns-in-Err-clause-err : goal.returns-in-Err-clause-err
-returns-in-Err-clause-err c =
-    let r = c.in_ok-reply.ensures in
-    record {
-      order = c.in-Err.ensures.err;
-      owed = taken_back c.args.number c.in_ok-reply.reply c.args.self.now.replies c.begin.new.self c.note_over.new.self r.begun r.place r.owed c.note_over.ensures.owed;
-      last = refl;
-    }
+returns-in-Err-clause-err c = record {
+  order = c.in-Err.ensures.err;
+  owed = taken_back c.args.number c.args.self.now.owed c.insert.new.self c.remove.new.self c.requires.is_new c.in_ok-insert.ensures.updates c.remove.ensures.updates;
+  last = refl;
+}

@@ -1,14 +1,17 @@
 use Rattle.std.proofs.Common.{Some, sym, ap, subst, ◌∙◌}
 use Rattle.session_core.specs.Order.{MayJoin, joined}
-use Rattle.session_core.specs.Replies.{Replies, owes, HaveBegun}
-use Rattle.session_machine.specs.Ties.{end_of}
+use Rattle.session_machine.specs.Ties.{end_of, is_owed}
+use Rattle.session_machine.specs.declared.caller.Caller.{Caller}
 use Rattle.session_machine.proofs.CallerMaps.{order_by, missing, written, others_same, err_same}
 use Rattle.session_machine.proofs.callers.Callers.begin_first.Goals as goal
 
-pub begin-requires : goal.begin-requires
-begin-requires c =
+pub begin-requires-clause-joins : goal.begin-requires-clause-joins
+begin-requires-clause-joins c =
     let none = missing c.args.caller c.args.self.now (sym c.requires.unknown) ∙ sym c.new-entry.ensures in
     subst (MayJoin c.args.number c.args.orders.now) (order_by c.args.caller c.args.self.now c.new-entry.result none) c.requires.joins
+
+pub begin-requires-clause-is_new : goal.begin-requires-clause-is_new
+begin-requires-clause-is_new c = ap (λ (x : Caller). is_owed c.args.number x.owed) c.new-entry.ensures
 
 pub returns-in_err-insert-clause-others : goal.returns-in_err-insert-clause-others
 returns-in_err-insert-clause-others c = others_same c.args.caller c.args.self.now (record { callers = c.insert.new.self }) c.in_err-insert.ensures.err
@@ -22,12 +25,6 @@ returns-clause-place c =
     let w = written c.args.caller c.new-entry.result c.begin.new.self c.args.self.now (record { callers = c.insert.new.self }) none c.in_ok-insert.ensures.updates in
     c.in_ok-places.ensures.place ∙ ap end_of (sym w.was_order)
 
-pub returns-clause-reply : goal.returns-clause-reply
-returns-clause-reply c =
-    let none = missing c.args.caller c.args.self.now (sym c.requires.unknown) ∙ sym c.new-entry.ensures in
-    let w = written c.args.caller c.new-entry.result c.begin.new.self c.args.self.now (record { callers = c.insert.new.self }) none c.in_ok-insert.ensures.updates in
-    c.in_ok-places.ensures.reply ∙ ap (λ (r : Replies). r.next_place) (sym w.was_replies)
-
 pub returns-clause-joined : goal.returns-clause-joined
 returns-clause-joined c =
     let none = missing c.args.caller c.args.self.now (sym c.requires.unknown) ∙ sym c.new-entry.ensures in
@@ -38,19 +35,13 @@ pub returns-clause-owed : goal.returns-clause-owed
 returns-clause-owed c =
     let none = missing c.args.caller c.args.self.now (sym c.requires.unknown) ∙ sym c.new-entry.ensures in
     let w = written c.args.caller c.new-entry.result c.begin.new.self c.args.self.now (record { callers = c.insert.new.self }) none c.in_ok-insert.ensures.updates in
-    w.replies ∙ c.in_ok-places.ensures.owed ∙ ap (owes c.args.number) (sym w.was_replies)
+    rw (w.was_owed, w.owed) c.in_ok-places.ensures.owed
 
 pub returns-clause-others : goal.returns-clause-others
 returns-clause-others c =
     let none = missing c.args.caller c.args.self.now (sym c.requires.unknown) ∙ sym c.new-entry.ensures in
     let w = written c.args.caller c.new-entry.result c.begin.new.self c.args.self.now (record { callers = c.insert.new.self }) none c.in_ok-insert.ensures.updates in
     w.others
-
-pub returns-clause-begun : goal.returns-clause-begun
-returns-clause-begun c =
-    let none = missing c.args.caller c.args.self.now (sym c.requires.unknown) ∙ sym c.new-entry.ensures in
-    let w = written c.args.caller c.new-entry.result c.begin.new.self c.args.self.now (record { callers = c.insert.new.self }) none c.in_ok-insert.ensures.updates in
-    subst HaveBegun (sym w.was_replies) c.in_ok-places.ensures.begun
 
 pub returns-clause-last : goal.returns-clause-last
 returns-clause-last c =

@@ -17,7 +17,7 @@ give_up-requires c =
 pub returns-in-Some-clause-order : goal.returns-in-Some-clause-order
 returns-in-Some-clause-order c =
     let was = c.in-Some.entry.now in
-    let now : Caller = record { order = c.give_up.new.order; replies = was.replies; last = was.last } in
+    let now : Caller = record { order = c.give_up.new.order; owed = was.owed; last = was.last } in
     let w = lent c.args.caller c.args.self.now (c.get_mut.follows.lender now) was now c.in-Some.ensures.value (c.get_mut.follows.holds now) in
     subst (λ (o : Order). OrderGoes (given_up c.args.place c.args.count) o (order_of c.args.caller (record { callers = c.get_mut.follows.lender now }))) (sym w.was_order)
     (subst (OrderGoes (given_up c.args.place c.args.count) was.order) (sym w.order) c.give_up.ensures)
@@ -25,7 +25,7 @@ returns-in-Some-clause-order c =
 pub returns-in-Some-clause-only : goal.returns-in-Some-clause-only
 returns-in-Some-clause-only c =
     let was = c.in-Some.entry.now in
-    let now : Caller = record { order = c.give_up.new.order; replies = was.replies; last = was.last } in
+    let now : Caller = record { order = c.give_up.new.order; owed = was.owed; last = was.last } in
     lent_order c.args.caller c.args.self.now (c.get_mut.follows.lender now) was now c.in-Some.ensures.value (c.get_mut.follows.holds now) refl refl
 
 pub returns-in_default-clause-order : goal.returns-in_default-clause-order

@@ -15,14 +15,14 @@ note_refused-requires c =
 pub returns-in-Some-clause-order : goal.returns-in-Some-clause-order
 returns-in-Some-clause-order c =
     let was = c.in-Some.entry.now in
-    let now : Caller = record { order = c.note_refused.new.self; replies = was.replies; last = was.last } in
+    let now : Caller = record { order = c.note_refused.new.self; owed = was.owed; last = was.last } in
     let w = lent c.args.caller c.args.self.now (c.get_mut.follows.lender now) was now c.in-Some.ensures.value (c.get_mut.follows.holds now) in
     w.order ∙ c.note_refused.ensures ∙ ap (with_status c.args.place Waits) (sym w.was_order)
 
 pub returns-in-Some-clause-only : goal.returns-in-Some-clause-only
 returns-in-Some-clause-only c =
     let was = c.in-Some.entry.now in
-    let now : Caller = record { order = c.note_refused.new.self; replies = was.replies; last = was.last } in
+    let now : Caller = record { order = c.note_refused.new.self; owed = was.owed; last = was.last } in
     lent_order c.args.caller c.args.self.now (c.get_mut.follows.lender now) was now c.in-Some.ensures.value (c.get_mut.follows.holds now) refl refl
 
 pub returns-in_default-clause-order : goal.returns-in_default-clause-order

@@ -7,11 +7,19 @@ use Rattle.session_machine.specs.Callers.{order_of}
 use Rattle.session_machine.specs.Begun.{ordered_of}
 use Rattle.session_machine.specs.Kept.{IsKept}
 use Rattle.session_machine.proofs.Keeping.{state_of}
+use Rattle.session_machine.proofs.Ties.Owed.{none_new}
 use Rattle.session_machine.proofs.Beginning.{joins, begin_failed, begin_kept, begun_call}
 use Rattle.session_machine.proofs.machine.Machine.begin.Goals as goal
 
-pub begin-requires : goal.begin-requires
-begin-requires c =
+pub begin-requires-clause-is_new : goal.begin-requires-clause-is_new
+begin-requires-clause-is_new c =
+    let s : State = record { links = c.self.inside.links; first = c.self.inside.first; calls = c.self.inside.calls.items } in
+    let call = c.self.inside.first + c.len.result in
+    let is : call ≡ begun s = omega (arith, c.len.ensures) in
+    none_new c.args.caller call c.self.invariant.owed (omega (arith, is))
+
+pub begin-requires-clause-joins : goal.begin-requires-clause-joins
+begin-requires-clause-joins c =
     let s : State = record { links = c.self.inside.links; first = c.self.inside.first; calls = c.self.inside.calls.items } in
     let call = c.self.inside.first + c.len.result in
     let is : call ≡ begun s = omega (arith, c.len.ensures) in
@@ -40,4 +48,4 @@ invariant_of-self-2 c =
     let total : c.in-Some.began ≡ c.self.inside.began + length c.args.parts.items = omega (arith, c.in-Some.ensures, c.len-2.ensures) in
     let room : call + 1 < 2 ^ 64 = omega (arith, is, c.self.invariant.fits, c.if-call.false) in
     begin_kept s c.self.invariant call c.args.caller c.args.parts.items c.in_ok-places.places c.begin.new.self c.push_back_reserved.new.self.items is c.requires.wait c.requires.apart c.requires.alike c.requires.some
-    e.caller e.place e.reply (e.joined ∙ ap (λ os. joined call os (order_of c.args.caller c.self.inside.callers)) orders) e.owed e.begun e.last e.others calls_are c.push_back_reserved-2.new.self.items c.in-Some.began more_is total room
+    e.caller e.place (e.joined ∙ ap (λ os. joined call os (order_of c.args.caller c.self.inside.callers)) orders) e.owed e.last e.others calls_are c.push_back_reserved-2.new.self.items c.in-Some.began more_is total room

@@ -1,8 +1,9 @@
-use Rattle.std.proofs.Common.{◌≡◌, Some, ◌<◌, ◌≤◌, ◌+◌, ◌^◌, ℕ, true, length, ap, sym, ◌∙◌, subst, arith}
-use Rattle.session_core.specs.Replies.{without_place, IsOwed}
+use Rattle.std.proofs.Common.{◌≡◌, Some, ◌<◌, ◌≤◌, ◌+◌, ◌^◌, ℕ, true, false, length, ap, sym, ◌∙◌, subst, arith}
+use Rattle.std.specs.Ordering.{nat_cmp}
+use Rattle.std.specs.BTreeSet.{Updates}
 use Rattle.session_core.specs.State.{State, call_at}
-use Rattle.session_machine.specs.Callers.{order_of, replies_of, OnlyReplies}
-use Rattle.session_machine.specs.Ties.{end_of}
+use Rattle.session_machine.specs.Callers.{order_of, owed_of, OnlyOwed}
+use Rattle.session_machine.specs.Ties.{end_of, is_owed}
 use Rattle.session_machine.specs.Kept.{CallGoes}
 use Rattle.session_machine.proofs.Keeping.{call_stands}
 use Rattle.session_machine.proofs.GivingUp.{IsFirstOrder, call_fits, give_within, give_happens, give_owed, give_kept}
@@ -24,11 +25,6 @@ place_of-place-requires-clause-fits c = λ o at there.
     let first : IsFirstOrder state.parts order = record { some = c.first_order-order.ensures.some; none = c.first_order-order.ensures.none } in
     let small : c.self.inside.began < 2 ^ 64 = omega arith in
     call_fits s k c.args.call state order 0 small call_is first (omega arith) o at there
-
-pub reply_place-reply-requires : goal.reply_place-reply-requires
-reply_place-reply-requires c =
-    let st = call_stands c.self.invariant c.args.call c.in-Some.state.now c.in-Some.ensures.some in
-    (st.low, st.within)
 
 pub note_given_up-requires : goal.note_given_up-requires
 note_given_up-requires c = λ o.
@@ -56,7 +52,7 @@ note_over-requires c =
     let old = c.self.inside.callers in
     let mid = c.note_given_up.new.callers in
     let goes : CallGoes state.caller c.place_of-place.result (length c.parts-count.result.now) order old mid = subst (λ (n : ℕ). CallGoes n c.place_of-place.result (length c.parts-count.result.now) order old mid) own c.note_given_up.ensures in
-    subst (λ (n : ℕ). IsOwed c.reply_place-reply.result (replies_of n mid)) (sym own) (give_owed s k c.args.call state order c.place_of-place.result (length c.parts-count.result.now) call_is first count_is c.place_of-place.ensures mid c.reply_place-reply.result wanted c.reply_place-reply.ensures goes.only.replies)
+    subst (λ (n : ℕ). is_owed c.args.call (owed_of n mid) ≡ true) (sym own) (give_owed s k c.args.call state order c.place_of-place.result (length c.parts-count.result.now) call_is first count_is c.place_of-place.ensures mid wanted goes.only.owed)
 
 pub invariant_of-self : goal.invariant_of-self
 invariant_of-self c =
@@ -74,10 +70,9 @@ invariant_of-self c =
     let goes : CallGoes state.caller c.place_of-place.result (length c.parts-count.result.now) order old mid = subst (λ (n : ℕ). CallGoes n c.place_of-place.result (length c.parts-count.result.now) order old mid) own c.note_given_up.ensures in
     let o = c.note_over.ensures in
     let new = c.note_over.new.self in
-    let reply = c.reply_place-reply.result in
-    give_kept s k c.args.call state order c.place_of-place.result (length c.parts-count.result.now) call_is first count_is c.place_of-place.ensures c.give_up.new.calls.items mid new reply wanted c.reply_place-reply.ensures c.give_up.ensures goes
-    (subst (λ (n : ℕ). (replies_of n new).owed ≡ without_place reply (replies_of n mid).owed) own o.owed)
-    (subst (λ (n : ℕ). OnlyReplies n mid new) own o.only)
+    give_kept s k c.args.call state order c.place_of-place.result (length c.parts-count.result.now) call_is first count_is c.place_of-place.ensures c.give_up.new.calls.items mid new wanted c.give_up.ensures goes
+    (subst (λ (n : ℕ). Updates nat_cmp (owed_of n mid) (owed_of n new) c.args.call false) own o.owed)
+    (subst (λ (n : ℕ). OnlyOwed n mid new) own o.only)
 
 pub returns-clause-gave_up : goal.returns-clause-gave_up
 returns-clause-gave_up c = λ _.

@@ -1,10 +1,8 @@
-use Rattle.std.proofs.Common.{◌≡◌, ◌<◌, ◌≤◌, ◌-◌, ◌^◌, ℕ, true, false, Some, length, ap, sym, ◌∙◌, subst, arith}
-use Rattle.std.specs.List.{slice_get}
-use Rattle.session_core.specs.declared.replies.OwedReply.{OwedReply}
+use Rattle.std.proofs.Common.{◌≡◌, ◌<◌, ◌≤◌, ◌-◌, ◌^◌, ℕ, true, false, length, ap, sym, ◌∙◌, subst, arith}
 use Rattle.session_core.specs.Order.{IsTrimmed}
 use Rattle.session_core.specs.State.{State, CallState, left_call}
-use Rattle.session_machine.specs.Callers.{order_of, replies_of}
-use Rattle.session_machine.specs.Ties.{is_ordered}
+use Rattle.session_machine.specs.Callers.{order_of, owed_of}
+use Rattle.session_machine.specs.Ties.{is_ordered, is_owed}
 use Rattle.session_machine.specs.Calls.{with_call}
 use Rattle.session_machine.specs.Kept.{IsPlace}
 use Rattle.session_machine.proofs.Keeping.{call_stands}
@@ -44,8 +42,8 @@ invariant_of-self c =
     let unwanted : state.is_wanted ≡ false = sym c.is_wanted.ensures ∙ c.if-is_wanted.false in
     let done = sym c.is_done.ensures ∙ c.if-not-is_done.false in
     let old = c.self.inside.callers in
-    let next : (first : OwedReply) → slice_get (replies_of state.caller old).owed 0 ≡ Some first → c.args.call ≤ first.number =
-    subst (λ (n : ℕ). (first : OwedReply) → slice_get (replies_of n old).owed 0 ≡ Some first → c.args.call ≤ first.number) own (c.owes_before.ensures.no c.if-owes_before.false) in
+    let next : (other : ℕ) → is_owed other (owed_of state.caller old) ≡ true → c.args.call ≤ other =
+    subst (λ (n : ℕ). (other : ℕ) → is_owed other (owed_of n old) ≡ true → c.args.call ≤ other) own (c.owes_before.ensures.no c.if-owes_before.false) in
     let calls_are : c.replace.new.calls.items ≡ with_call c.args.call s.first (λ _. left_call) s.calls = c.replace.ensures ∙ ap (λ (x : CallState). with_call c.args.call s.first (λ _. x) s.calls) c.left.ensures in
     let at : IsPlace s.first c.args.call (length state.parts - 1) c.self.inside.places.items order c.place_of-place.result =
     subst (λ (n : ℕ). IsPlace s.first c.args.call n c.self.inside.places.items order c.place_of-place.result) last_is c.place_of-place.ensures in
@@ -66,8 +64,8 @@ returns-clause-left c = λ _.
     let unwanted : state.is_wanted ≡ false = sym c.is_wanted.ensures ∙ c.if-is_wanted.false in
     let done = sym c.is_done.ensures ∙ c.if-not-is_done.false in
     let old = c.self.inside.callers in
-    let next : (first : OwedReply) → slice_get (replies_of state.caller old).owed 0 ≡ Some first → c.args.call ≤ first.number =
-    subst (λ (n : ℕ). (first : OwedReply) → slice_get (replies_of n old).owed 0 ≡ Some first → c.args.call ≤ first.number) own (c.owes_before.ensures.no c.if-owes_before.false) in
+    let next : (other : ℕ) → is_owed other (owed_of state.caller old) ≡ true → c.args.call ≤ other =
+    subst (λ (n : ℕ). (other : ℕ) → is_owed other (owed_of n old) ≡ true → c.args.call ≤ other) own (c.owes_before.ensures.no c.if-owes_before.false) in
     let calls_are : c.replace.new.calls.items ≡ with_call c.args.call s.first (λ _. left_call) s.calls = c.replace.ensures ∙ ap (λ (x : CallState). with_call c.args.call s.first (λ _. x) s.calls) c.left.ensures in
     leave_happens s k c.args.call state order c.place_of-place.result c.replace.new.calls.items call_is unwanted done next calls_are c.args.self.now c.self.view_is
 
@@ -77,7 +75,7 @@ returns-then-owes_before-clause-why c = λ _ may.
     let k = c.self.invariant in
     let state = c.in-Some.state.now in
     let owed = c.owes_before.ensures.yes c.if-owes_before.true in
-    let is : slice_get (replies_of state.caller c.self.inside.callers).owed 0 ≡ Some owed.0 = ap (λ n. slice_get (replies_of n c.self.inside.callers).owed 0) (sym c.caller-caller.ensures) ∙ owed.1 in
+    let is : is_owed owed.0 (owed_of state.caller c.self.inside.callers) ≡ true = ap (λ n. is_owed owed.0 (owed_of n c.self.inside.callers)) (sym c.caller-caller.ensures) ∙ owed.1 in
     absurd (not_before s c.args.self.now k c.args.call state owed.0 c.self.view_is c.in-Some.ensures.some may is owed.2)
 
 pub returns-then-not-is_past-clause-why : goal.returns-then-not-is_past-clause-why
