@@ -1,5 +1,6 @@
 mod AddedRows
 pub mod Begins
+pub mod GivenReplies
 pub mod Leads
 mod NodeTables
 mod OwnSlots

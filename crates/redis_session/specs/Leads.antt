@@ -6,7 +6,10 @@ use Rattle.session_core.specs.declared.link.Standing.TheVariants as Standing
 use Rattle.session_core.specs.Channel.{Channel}
 use Rattle.session_core.specs.LinkEvents as link
 use Rattle.session_core.specs.Part.{PartState}
-use Rattle.session_core.specs.State.{State, CallState, Event, Open, On, Begin, GiveUp, Finish, Happens, IsLink, Run}
+use Rattle.session_core.specs.State.{CallState, Event, Open, On, Begin, GiveUp, Finish, Happens, IsLink, Run}
+use Rattle.redis_session.specs.CallReplies.{IsReplyTo}
+use Rattle.redis_session.specs.SessionStates.{SessionState, names, last_reply, without_reply}
+use Rattle.redis_session.specs.declared.schedule.ReplyRule.{ReplyRule}
 
 -- The session may do this by itself. All else is reported by its shell: that a connection is there or ended, what
 -- was written and read, that a caller asks something, takes a reply or waits no more.
@@ -21,61 +24,75 @@ is_own (GiveUp call) = false
 is_own (Finish call state) = false
 is_own other = true
 
+-- This happens to the links and calls of a session, and nothing else of it changes.
+pub record Does (event : Event) (old new : SessionState) : Type 0 where
+  pub happens : Happens old.machine event new.machine
+  pub others : new ≡ record old { machine = new.machine }
+
 -- Steps of its own lead from one state to the other.
-pub record Leads (old new : State) : Type 0 where
+pub record Leads (old new : SessionState) : Type 0 where
   pub events : List Event
   pub own : list_all is_own events ≡ true
-  pub run : Run old events new
+  pub run : Run old.machine events new.machine
+  -- the last reply and the settings stay
+  pub others : new ≡ record old { machine = new.machine }
 
 -- The shell reports this, and then the session goes on by itself.
-pub record Reports (event : Event) (old new : State) : Type 0 where
-  pub mid : State
-  pub reported : Happens old event mid
+pub record Reports (event : Event) (old new : SessionState) : Type 0 where
+  pub mid : SessionState
+  pub reported : Does event old mid
   pub leads : Leads mid new
 
 -- There is a link of this number, and it stands so.
-abbrev pub IsLinkThat : State → ℕ → (Standing → Type 0) → Type 0
-IsLinkThat s number stands = (c : Channel) × IsLink s number c × stands c.standing
+abbrev pub IsLinkThat : SessionState → ℕ → (Standing → Type 0) → Type 0
+IsLinkThat s number stands = (c : Channel) × IsLink s.machine number c × stands c.standing
 
 -- the link may be read
-abbrev pub IsOpen : State → ℕ → Type 0
+abbrev pub IsOpen : SessionState → ℕ → Type 0
 IsOpen s number = IsLinkThat s number (λ standing. standing ≡ Standing.Open)
 
 -- the connection of the link did not end
-abbrev pub IsConnected : State → ℕ → Type 0
+abbrev pub IsConnected : SessionState → ℕ → Type 0
 IsConnected s number = IsLinkThat s number (λ standing. standing ≢ Standing.Ended)
 
 -- These bytes were read on an open link.
-abbrev pub Hears : ℕ → List ℕ → State → State → Type 0
+abbrev pub Hears : ℕ → List ℕ → SessionState → SessionState → Type 0
 Hears number bytes old new = Reports (On number (link.Hear bytes)) old new
 
 -- Memory ran out after some bytes were read on an open link. If it ran out for these, the link is broken.
-abbrev pub HearsNot : ℕ → List ℕ → State → State → Type 0
-HearsNot number bytes old new = Hears number bytes old new ⊎ Happens old (On number link.Miss) new
+abbrev pub HearsNot : ℕ → List ℕ → SessionState → SessionState → Type 0
+HearsNot number bytes old new = Hears number bytes old new ⊎ Does (On number link.Miss) old new
 
 -- The connection of a link ended. If there was none, the session goes on by itself.
-pub record Ends (number : ℕ) (old new : State) : Type 0 where
+pub record Ends (number : ℕ) (old new : SessionState) : Type 0 where
   pub ends : IsConnected old number → Reports (On number link.End) old new
   pub none : (IsConnected old number → ⊥) → Leads old new
 
 -- A link was opened and ended again, or nothing changed.
-abbrev pub ConnectsNot : State → State → Type 0
+abbrev pub ConnectsNot : SessionState → SessionState → Type 0
 ConnectsNot old new =
-    ((number most : ℕ) × (mid : State) × Reports (Open number most) old mid × Ends number mid new) ⊎ (new ≡ old)
+    ((number most : ℕ) × (mid : SessionState) × Reports (Open number most) old mid × Ends number mid new) ⊎ (new ≡ old)
 
 -- A call of this caller begins, and has this number.
-abbrev pub BeginsCall : (caller call : ℕ) → State → State → Type 0
+abbrev pub BeginsCall : (caller call : ℕ) → SessionState → SessionState → Type 0
 BeginsCall caller call old new = (parts : List PartState) × Reports (Begin call caller parts) old new
 
--- After steps of its own, the session gives this caller the reply to this call, which is made of the call's state. Its
--- turn has come: the caller is owed no reply to an earlier call.
-pub record GivesReply (caller call : ℕ) (old new : State) : Type 0 where
-  pub mid : State
+-- The session gives this caller the reply to this call. Its turn has come: the caller is owed no reply to an earlier
+-- call. The bytes of the reply are those that the rule makes of the answers to the call's own parts.
+pub record Finishes (caller call : ℕ) (old new : SessionState) : Type 0 where
   pub state : CallState
-  pub leads : Leads old mid
-  pub given : Happens mid (Finish call state) new
+  pub given : Happens old.machine (Finish call state) new.machine
   pub caller_is : state.caller ≡ caller
+  pub rule : ReplyRule
+  pub reply_is : IsReplyTo (names old) rule state.parts (last_reply new)
+  pub others : new ≡ record old { machine = new.machine; given = new.given }
+
+-- The last reply is forgotten. After steps of its own, the session gives this caller the reply to this call.
+pub record GivesReply (caller call : ℕ) (old new : SessionState) : Type 0 where
+  pub mid : SessionState
+  pub leads : Leads (without_reply old) mid
+  pub finishes : Finishes caller call mid new
 
 -- A call is given up.
-abbrev pub GivesUp : ℕ → State → State → Type 0
+abbrev pub GivesUp : ℕ → SessionState → SessionState → Type 0
 GivesUp call old new = Reports (GiveUp call) old new

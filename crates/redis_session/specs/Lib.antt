@@ -7,10 +7,13 @@ pub use Rattle.redis_bytes.specs.Replies
 pub use Rattle.redis_bytes.specs.Requests
 pub mod Added
 pub mod Begins
+pub mod CallReplies
 pub mod CommandKinds
 pub mod Leads
 pub mod Plans
 pub mod Refusals
+pub mod SessionStates
+pub mod SessionView
 pub mod SharedNames
 pub mod SplitReplies
 pub mod Table

@@ -45,3 +45,7 @@ error_text error = take (length error - 3) (drop 1 error)
 abbrev pub no_tries_reply : List ℕ → Effect → List ℕ
 no_tries_reply refusal effect =
     codes "-TRYAGAIN the nodes refused too often: " ++ error_text refusal ++ codes "; " ++ effect_text effect ++ crlf
+
+-- the reply if the answers of the nodes make no one reply
+abbrev pub unfit_reply : List ℕ
+unfit_reply = codes "-ERR the replies of the nodes make no one reply" ++ crlf

@@ -44,23 +44,26 @@ pub struct Session {
 }
 
 impl Model for Session {
-    ghost use Rattle.session_core.specs.State.{State};
+    ghost use Rattle.redis_session.specs.SessionStates.{SessionState};
 
-    ghost Value = { State };
+    ghost Value = { SessionState };
 
-    ghost view = { λ s. s.machine };
+    ghost use Rattle.redis_session.specs.SessionView.{view_of};
+
+    ghost view = { view_of };
 }
 
 impl Session {
-    ghost use Rattle.session_core.specs.State.{start, CallState, Happens, Open, On, IsLink, call_at};
+    ghost use Rattle.session_core.specs.State.{CallState, Open, On, IsLink, call_at};
     ghost use Rattle.session_core.specs.declared.link.Standing.TheVariants as Standing;
     ghost use Rattle.session_core.specs.LinkEvents as events;
     ghost use Rattle.session_core.specs.Channel.{Channel, to_write};
-    ghost use Rattle.redis_session.specs.Leads.{Leads, Reports, Hears, HearsNot, Ends, ConnectsNot, BeginsCall, GivesUp, IsOpen};
+    ghost use Rattle.redis_session.specs.SessionStates.{new_session};
+    ghost use Rattle.redis_session.specs.Leads.{Does, Leads, Reports, Hears, HearsNot, Ends, ConnectsNot, BeginsCall, GivesUp, IsOpen};
 
     /// No links, no calls, and no slot has a node. Takes no memory.
     pub fn new(alloc: Global, settings: Settings) -> Session
-        ensures { result ≡ start }
+        ensures { result ≡ new_session settings.read_only settings.registry settings.added }
     {
         Session {
             machine: Machine::new(alloc),
@@ -122,18 +125,18 @@ impl Session {
         ensures ok { IfOk result (λ link. (most : ℕ) × Reports (Open link most) self.old self.new) }
         ensures err { OnErr result (ConnectsNot self.old self.new) }
     {
-        let Ok(link) = self.machine.open(alloc, self.settings.most_reply_bytes) else {
+        let Ok(opened) = self.machine.open(alloc, self.settings.most_reply_bytes) else {
             self.unreachable(node);
             return Err(AllocError);
         };
-        if let Err(error) = self.begin_link(node, link) {
-            self.end_link(alloc, link);
+        if let Err(error) = self.begin_link(node, opened) {
+            self.end_link(alloc, opened);
             self.unreachable(node);
             return Err(error);
         }
         // What finds no memory now is asked in a later step.
         let _ = self.step(alloc);
-        Ok(link)
+        Ok(opened)
     }
 
     /// Notes that no connection to a node could be made. The parts that wait for it pause. The map is wanted. A part
@@ -176,17 +179,17 @@ impl Session {
 
     /// What is to be written on a link.
     pub fn unwritten(&self, link: usize) -> &[u8]
-        ensures link { (c : Channel) → IsLink self.entry.now link c → result.now ≡ to_write c.standing c.unwritten }
-        ensures none { ((c : Channel) → IsLink self.entry.now link c → ⊥) → result.now ≡ [] }
+        ensures link { (c : Channel) → IsLink self.entry.now.machine link c → result.now ≡ to_write c.standing c.unwritten }
+        ensures none { ((c : Channel) → IsLink self.entry.now.machine link c → ⊥) → result.now ≡ [] }
     {
         self.machine.unwritten(link)
     }
 
     /// Notes that `count` bytes more were written on a link. Returns whether so many were to be written.
     pub fn wrote(&mut self, link: usize, count: usize) -> bool
-        ensures written { result ≡ true → Happens self.old (On link (events.Write count)) self.new }
+        ensures written { result ≡ true → Does (On link (events.Write count)) self.old self.new }
         ensures not { result ≡ false → self.new ≡ self.old }
-        ensures why { result ≡ false → (c : Channel) → IsLink self.old link c → c.standing ≢ Standing.Ended
+        ensures why { result ≡ false → (c : Channel) → IsLink self.old.machine link c → c.standing ≢ Standing.Ended
             → length c.unwritten < count }
     {
         let (Some(Standing::Open) | Some(Standing::Broken)) = self.machine.standing(link) else {
@@ -289,7 +292,7 @@ impl Session {
     pub fn give_up(&mut self, alloc: Global, call: u64) -> bool
         ensures gave_up { result ≡ true → GivesUp call self.old self.new }
         ensures not { result ≡ false → self.new ≡ self.old }
-        ensures why { result ≡ false → (state : CallState) → call_at call self.old ≡ Some state
+        ensures why { result ≡ false → (state : CallState) → call_at call self.old.machine ≡ Some state
             → state.is_wanted ≡ true → ⊥ }
     {
         self.unlist(call);

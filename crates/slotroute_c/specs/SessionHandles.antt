@@ -2,24 +2,28 @@
 use base.Fml.{Fml, feq}
 use Prim.Native.Nat.{zero, suc}
 use denote.RawPtr.{Ptr}
-use Rattle.std.specs.Prelude.{ℕ}
+use Rattle.std.specs.Prelude.{ℕ, []}
 use Rattle.std.specs.Borrow.{Lends, MutBor}
 use Rattle.std.specs.Global.{Global}
-use Rattle.session_core.specs.State.{State, start}
+use Rattle.redis_session.specs.SessionStates.{SessionState, new_session}
 use Rattle.redis_session.specs.contracts.session.Session.{the_row as Inner}
 use Rattle.slotroute_c.specs.declared.session_handle.SessionHandle.{SessionHandle}
 use Rattle.slotroute_c.specs.contracts.session_handle.SessionHandle.{the_row as Outer}
 use Rattle.slotroute_c.specs.SessionBlocks.{block_owns}
 
 -- the handle with another state in its block
-abbrev pub holding : SessionHandle → State → SessionHandle
+abbrev pub holding : SessionHandle → SessionState → SessionHandle
 holding handle state = record handle { value = state }
 
 -- what is written through the borrow is what the handle holds in the end
-abbrev pub writes_back : MutBor SessionHandle → MutBor State → Fml
+abbrev pub writes_back : MutBor SessionHandle → MutBor SessionState → Fml
 writes_back handle session = Lends Outer Inner handle session (holding handle.now)
+
+-- a session of no links and no calls, which knows no names but those of the tables
+abbrev pub opened : SessionState
+opened = new_session [] [] []
 
 -- An answer of 0 leaves a pointer to a session of no links and no calls. Another answer leaves the pointer as it was.
 abbrev pub opens : Global → ℕ → Ptr → Ptr → Fml
-opens alloc zero old new = block_owns alloc new start
+opens alloc zero old new = block_owns alloc new opened
 opens alloc (suc n) old new = feq Ptr new old

@@ -76,7 +76,7 @@ pub extern "C" fn slotroute_session_give_up(
         → GivesUp call session.old.value session.new.value }
     ensures not_there { result ≡ code Outcome.NotThere → session.new.value ≡ session.old.value }
     ensures why { result ≡ code Outcome.NotThere → (state : CallState)
-        → call_at call session.old.value ≡ Some state → state.is_wanted ≡ true → ⊥ }
+        → call_at call session.old.value.machine ≡ Some state → state.is_wanted ≡ true → ⊥ }
     ensures no_other { IsTrue (is_one_of result (Outcome.Done ∷ Outcome.NotThere ∷ [])) }
 {
     if session.get_mut().give_up(alloc, call) {

@@ -1,7 +1,7 @@
 //! The handle by which C holds a session.
 ghost use Rattle.std.specs.Prelude.{◌≡◌};
 ghost use Rattle.std.specs.Borrow.{sem};
-ghost use Rattle.session_core.specs.State.{State};
+ghost use Rattle.redis_session.specs.SessionStates.{SessionState};
 ghost use Rattle.slotroute_c.specs.SessionBlocks.{block_owns, session_coded};
 
 use redis_session::Session;
@@ -13,7 +13,7 @@ use std::marker::{Model, Send};
 pub struct SessionHandle {
     at: *mut u8,
     alloc: Global,
-    pub ghost value: { State } by { session_coded },
+    pub ghost value: { SessionState } by { session_coded },
 }
 
 impl Model for SessionHandle {

@@ -1,9 +1,9 @@
 ghost use Rattle.std.specs.Prelude.{◌≡◌, ◌≢◌, ◌<◌, ◌∷◌, [], ℕ, IsTrue, length, take};
-ghost use Rattle.session_core.specs.State.{Happens, IsLink, On, Open};
+ghost use Rattle.session_core.specs.State.{IsLink, On, Open};
 ghost use Rattle.session_core.specs.LinkEvents as events;
 ghost use Rattle.session_core.specs.declared.link.Standing.TheVariants as Standing;
 ghost use Rattle.session_core.specs.Channel.{Channel, to_write};
-ghost use Rattle.redis_session.specs.Leads.{ConnectsNot, Ends, Hears, HearsNot, IsOpen, Reports};
+ghost use Rattle.redis_session.specs.Leads.{ConnectsNot, Does, Ends, Hears, HearsNot, IsOpen, Reports};
 ghost use Rattle.slotroute_c.specs.Buffers.{IsWritten};
 ghost use Rattle.slotroute_c.specs.Outcomes.{code, is_one_of};
 
@@ -98,11 +98,11 @@ pub extern "C" fn slotroute_session_unwritten(
     bytes: &mut [u8],
 ) -> usize
     ensures unchanged { session.new.value ≡ session.old.value }
-    ensures len { (c : Channel) → IsLink session.old.value link c
+    ensures len { (c : Channel) → IsLink session.old.value.machine link c
         → result ≡ length (to_write c.standing c.unwritten) }
-    ensures written { (c : Channel) → IsLink session.old.value link c
+    ensures written { (c : Channel) → IsLink session.old.value.machine link c
         → IsWritten (take (length bytes.old) (to_write c.standing c.unwritten)) bytes.old bytes.new }
-    ensures none { ((c : Channel) → IsLink session.old.value link c → ⊥)
+    ensures none { ((c : Channel) → IsLink session.old.value.machine link c → ⊥)
         → (result ≡ 0) × (bytes.new ≡ bytes.old) }
 {
     copied(session.get_mut().unwritten(link), bytes)
@@ -130,10 +130,10 @@ pub extern "C" fn slotroute_session_wrote(
     count: usize,
 ) -> u32
     ensures done { result ≡ code Outcome.Done
-        → Happens session.old.value (On link (events.Write count)) session.new.value }
+        → Does (On link (events.Write count)) session.old.value session.new.value }
     ensures not_there { result ≡ code Outcome.NotThere → session.new.value ≡ session.old.value }
     ensures too_many { result ≡ code Outcome.NotThere → (c : Channel)
-        → IsLink session.old.value link c → c.standing ≢ Standing.Ended
+        → IsLink session.old.value.machine link c → c.standing ≢ Standing.Ended
         → length c.unwritten < count }
     ensures no_other { IsTrue (is_one_of result (Outcome.Done ∷ Outcome.NotThere ∷ [])) }
 {

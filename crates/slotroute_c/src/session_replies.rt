@@ -1,5 +1,6 @@
 ghost use Rattle.std.specs.Prelude.{◌≡◌, ◌≢◌, ◌<◌, ◌≤◌, ◌∷◌, [], IsTrue, drop, length};
 ghost use Rattle.redis_session.specs.Leads.{GivesReply, Leads};
+ghost use Rattle.redis_session.specs.SessionStates.{last_reply, without_reply};
 ghost use Rattle.redis_session.specs.Refusals.{refusal_reply};
 ghost use Rattle.redis_session.specs.declared.refusal.CallRefusal as refused;
 ghost use Rattle.slotroute_c.specs.Buffers.{IsWritten};
@@ -38,7 +39,10 @@ pub extern "C" fn slotroute_session_next_reply(
     ensures given { result ≡ code Outcome.Done
         → GivesReply reply.new.caller reply.new.call session.old.value session.new.value }
     // Without a reply, none goes out.
-    ensures leads { result ≢ code Outcome.Done → Leads session.old.value session.new.value }
+    ensures leads { result ≢ code Outcome.Done
+        → Leads (without_reply session.old.value) session.new.value }
+    ensures len { result ≡ code Outcome.Done
+        → reply.new.bytes ≡ length (last_reply session.new.value) }
     ensures unwritten { result ≢ code Outcome.Done → reply.new ≡ reply.old }
     ensures no_other { IsTrue (is_one_of result (Outcome.Done ∷ Outcome.NoMemory
         ∷ Outcome.NotThere ∷ [])) }
@@ -63,6 +67,9 @@ pub extern "C" fn slotroute_session_next_reply(
 #[unsafe(no_mangle)]
 pub extern "C" fn slotroute_session_reply(session: &mut SessionHandle, bytes: &mut [u8]) -> usize
     ensures unchanged { session.new.value ≡ session.old.value }
+    ensures len { result ≡ length (last_reply session.old.value) }
+    ensures written { length (last_reply session.old.value) ≤ length bytes.old
+        → IsWritten (last_reply session.old.value) bytes.old bytes.new }
     // What follows the reply in the buffer stays.
     ensures rest { drop result bytes.new ≡ drop result bytes.old }
     ensures too_small { length bytes.old < result → bytes.new ≡ bytes.old }

@@ -1,7 +1,6 @@
 ghost use Rattle.std.specs.Prelude.{◌≡◌, ◌<◌, IfOk};
 ghost use Rattle.std.specs.Borrow.{sem};
-ghost use Rattle.session_core.specs.State.{start};
-ghost use Rattle.slotroute_c.specs.SessionHandles.{opens};
+ghost use Rattle.slotroute_c.specs.SessionHandles.{opened, opens};
 
 use crate::block::Block;
 use crate::session_handle::SessionHandle;
@@ -67,7 +66,7 @@ fn on_heap(
     settings: &SessionSettings,
     login: &[u8],
 ) -> Result<Block<Session, Global>, AllocError>
-    ensures { IfOk result (λ block. block.value ≡ start) }
+    ensures { IfOk result (λ block. block.value ≡ opened) }
 {
     let session = Session::new(
         alloc,

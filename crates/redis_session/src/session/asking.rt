@@ -29,11 +29,11 @@ struct Errand {
 impl Session {
     ghost use Rattle.std.specs.Prelude.{List, OnErr};
     ghost use Rattle.session_core.specs.Part.{PartState};
-    ghost use Rattle.session_core.specs.State.{Happens, Begin};
+    ghost use Rattle.session_core.specs.State.{Begin};
     ghost use Rattle.session_core.specs.declared.link.Standing.TheVariants.{Open};
     ghost use Rattle.session_core.specs.Channel.{Channel};
     ghost use Rattle.session_core.specs.State.{IsLink};
-    ghost use Rattle.redis_session.specs.Leads.{Leads};
+    ghost use Rattle.redis_session.specs.Leads.{Does, Leads};
 
     /// Begins a call. Its parts are to be asked in this step.
     pub(crate) fn begin_call(
@@ -44,7 +44,7 @@ impl Session {
         deadline: u64,
     ) -> Result<u64, CallRefusal>
         ensures begun { IfOk result (λ call. (parts : List PartState)
-            × Happens self.old (Begin call caller parts) self.new) }
+            × Does (Begin call caller parts) self.old self.new) }
         ensures refused { OnErr result (self.new ≡ self.old) }
     {
         if !self.has_room(request.len()) {
@@ -270,7 +270,7 @@ impl Session {
 
     /// Asks a part on a link that is open, if the order of its caller allows it now. Returns whether it did.
     fn ask_at(&mut self, seat: Seat, link: usize, target: Target) -> Result<bool, AllocError>
-        requires { (c : Channel) × IsLink self.old link c × (c.standing ≡ Open) }
+        requires { (c : Channel) × IsLink self.old.machine link c × (c.standing ≡ Open) }
         ensures { Leads self.old self.new }
     {
         match target {

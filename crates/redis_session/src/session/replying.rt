@@ -1,5 +1,12 @@
 //! The replies to callers.
 
+ghost use Rattle.std.specs.Prelude.{◌≡◌, Some, map, IfOk, option_copied};
+ghost use Rattle.std.specs.List.{concat};
+ghost use Rattle.session_core.specs.State.{State, call_at};
+ghost use Rattle.redis_session.specs.CallReplies.{GivesBytes, IsErrorFor, IsOnly, IsReplyOfNodes, answers_in, cause_of, effect_on, fate_of, first_unanswered, is_answered};
+ghost use Rattle.redis_session.specs.SessionStates.{answer_of, bytes_of, given_of};
+ghost use Rattle.redis_session.specs.Told.{unfit_reply};
+
 use crate::reply::split_reply;
 use crate::schedule::ReplyRule;
 use crate::session::Session;
@@ -26,6 +33,9 @@ pub(crate) enum LastReply {
 }
 
 impl LastReply {
+    ghost use Rattle.std.specs.Prelude.{IfNone};
+    ghost use Rattle.redis_session.specs.SessionStates.{Nothing};
+
     /// Whether it is the reply to this call.
     pub(crate) fn is_of(&self, call: u64) -> bool {
         match self {
@@ -36,7 +46,9 @@ impl LastReply {
     }
 
     /// The call that it is the reply to.
-    fn call(&self) -> Option<u64> {
+    fn call(&self) -> Option<u64>
+        ensures { IfNone result (given_of self.now ≡ Nothing) }
+    {
         match self {
             LastReply::Nothing => None,
             LastReply::OfPart(call) | LastReply::Made(call, _) => Some(*call),
@@ -46,8 +58,13 @@ impl LastReply {
 }
 
 impl Session {
-    ghost use Rattle.std.specs.Prelude.{◌≡◌, IfOk, IfSome, IfNone, OnErr};
-    ghost use Rattle.redis_session.specs.Leads.{Leads, GivesReply};
+    ghost use Rattle.std.specs.Prelude.{IfSome, IfNone, OnErr};
+    ghost use Rattle.session_core.specs.State.{CallState};
+    ghost use Rattle.redis_routing.specs.Names.{names_in};
+    ghost use Rattle.redis_session.specs.CallReplies.{IsReplyTo, IsSplitReply};
+    ghost use Rattle.redis_session.specs.SessionStates.{last_reply, names, without_reply};
+    ghost use Rattle.redis_session.specs.Leads.{Finishes, GivesReply, Leads};
+    ghost use Rattle.redis_session.specs.declared.schedule.ReplyRule.{ReplyRule as Rule};
 
     /// The caller and the call of the next reply, if one is there. [`Session::reply`] has its bytes up to the next
     /// call of this function.
@@ -55,11 +72,12 @@ impl Session {
     /// # Errors
     ///
     /// If memory runs out. The same reply comes next then.
+    #[tactic(auto, using(crate::proofs::Leads::gives_on, crate::proofs::Leads::leads_on, crate::proofs::Leads::leads_nowhere))]
     pub fn next_reply(&mut self, alloc: Global) -> Result<Option<(u64, u64)>, AllocError>
         ensures given { IfOk result (λ next. IfSome next (λ it. GivesReply it.0 it.1 self.old self.new)) }
         // Without a reply, none goes out.
-        ensures none { IfOk result (λ next. IfNone next (Leads self.old self.new)) }
-        ensures err { OnErr result (Leads self.old self.new) }
+        ensures none { IfOk result (λ next. IfNone next (Leads (without_reply self.old) self.new)) }
+        ensures err { OnErr result (Leads (without_reply self.old) self.new) }
     {
         self.is_reply_behind = false;
         self.forget_reply(alloc);
@@ -76,7 +94,9 @@ impl Session {
     }
 
     /// The bytes of the reply that [`Session::next_reply`] named.
-    pub fn reply(&self) -> &[u8] {
+    pub fn reply(&self) -> &[u8]
+        ensures { result.now ≡ last_reply self.entry.now }
+    {
         match &self.reply {
             LastReply::Nothing => &[],
             LastReply::OfPart(call) => match self.machine.part(*call, 0) {
@@ -91,7 +111,7 @@ impl Session {
 
     /// Forgets the last reply.
     fn forget_reply(&mut self, alloc: Global)
-        ensures { Leads self.old self.new }
+        ensures { Leads (without_reply self.old) self.new }
     {
         let Some(call) = self.reply.call() else {
             return;
@@ -115,7 +135,7 @@ impl Session {
 
     /// Gives a caller its next reply, if it is there. Returns the call that it is for.
     fn give_next(&mut self, alloc: Global, caller: u64) -> Result<Option<u64>, AllocError>
-        ensures given { IfOk result (λ next. IfSome next (λ call. GivesReply caller call self.old self.new)) }
+        ensures given { IfOk result (λ next. IfSome next (λ call. Finishes caller call self.old self.new)) }
         ensures none { IfOk result (λ next. IfNone next (self.new ≡ self.old)) }
         ensures err { OnErr result (self.new ≡ self.old) }
     {
@@ -141,17 +161,32 @@ impl Session {
     }
 
     /// The reply to a call whose parts are as they are.
-    fn reply_of(&self, alloc: Global, call: u64) -> Result<LastReply, AllocError> {
-        let (Some(record), Some(state)) = (self.schedule.call(call), self.machine.call(call)) else {
+    fn reply_of(&self, alloc: Global, call: u64) -> Result<LastReply, AllocError>
+        ensures { IfOk result (λ reply. (state : CallState) → call_at call self.entry.now.machine ≡ Some state
+            → (rule : Rule) × IsReplyTo (names self.entry.now) rule state.parts
+            (bytes_of (given_of reply) self.entry.now.machine)) }
+    {
+        let Some(state) = self.machine.call(call) else {
             return Ok(LastReply::Nothing);
         };
         if let Some(part) = first_unanswered(state) {
             return fault_reply(alloc, call, state, part);
         }
-        match record.rule() {
-            ReplyRule::One => Ok(LastReply::OfPart(call)),
+        let Some(rule) = self.rule_of(call) else {
+            return Ok(only_reply(call, state));
+        };
+        match rule {
+            ReplyRule::One => Ok(only_reply(call, state)),
             ReplyRule::Split(request) => self.split_reply(alloc, call, request, state),
             ReplyRule::Several(policy) => several_reply(alloc, call, *policy, state),
+        }
+    }
+
+    /// How the reply to a call is made.
+    fn rule_of(&self, call: u64) -> Option<&ReplyRule> {
+        match self.schedule.call(call) {
+            Some(record) => Some(record.rule()),
+            None => None,
         }
     }
 
@@ -162,16 +197,23 @@ impl Session {
         call: u64,
         request: &[u8],
         state: &Call,
-    ) -> Result<LastReply, AllocError> {
+    ) -> Result<LastReply, AllocError>
+        ensures { IfOk result (GivesBytes call
+            (IsSplitReply (names self.entry.now) request.now (answers_in state.now.parts))) }
+    {
         let answers = answers_of(alloc, state)?;
         match split_reply(alloc, request, self.names(), &answers) {
             Ok(bytes) => Ok(LastReply::Made(call, bytes)),
-            Err(BytesFault::Memory) => Err(AllocError),
-            Err(_) => Ok(LastReply::Unfit(call)),
+            Err(fault) => match fault {
+                BytesFault::Memory => Err(AllocError),
+                _ => Ok(LastReply::Unfit(call)),
+            },
         }
     }
 
-    fn names(&self) -> Names<'_> {
+    fn names(&self) -> Names<'_>
+        ensures { names_in result ≡ names self.entry.now }
+    {
         Names {
             read_only: &self.settings.read_only,
             registry: &self.settings.registry,
@@ -183,18 +225,43 @@ impl Session {
 const UNFIT: &[u8] = b"-ERR the replies of the nodes make no one reply\r\n";
 
 /// The first part that was not answered.
-fn first_unanswered(state: &Call) -> Option<&Part> {
-    state
-        .parts()
-        .iter()
-        .find(|part| !matches!(part.phase(), Phase::Answered(_)))
+fn first_unanswered(state: &Call) -> Option<&Part>
+    ensures { option_copied result ≡ first_unanswered state.now.parts }
+{
+    let parts = state.parts();
+    for part in parts {
+        if !is_answered(part) {
+            return Some(part);
+        }
+    }
+    None
+}
+
+/// Whether a part was answered.
+fn is_answered(part: &Part) -> bool
+    ensures { result ≡ is_answered part.now.phase }
+{
+    matches!(part.phase(), Phase::Answered(_))
 }
 
 /// The answer to a part, or nothing if it has none.
-fn answer_of(part: &Part) -> &[u8] {
+fn answer_of(part: &Part) -> &[u8]
+    ensures { result.now ≡ answer_of part.now.phase }
+{
     match part.phase() {
         Phase::Answered(reply) => reply.as_slice(),
         _ => &[],
+    }
+}
+
+/// The reply to a call of one part, whose parts are answered. Answers to several parts make no one reply by themselves.
+fn only_reply(call: u64, state: &Call) -> LastReply
+    ensures { (s : State) → call_at call s ≡ Some state.now
+        → IsOnly (answers_in state.now.parts) (bytes_of (given_of result) s) }
+{
+    match state.parts() {
+        [_] => LastReply::OfPart(call),
+        _ => LastReply::Unfit(call),
     }
 }
 
@@ -204,22 +271,39 @@ fn several_reply(
     call: u64,
     policy: ResponsePolicy,
     state: &Call,
-) -> Result<LastReply, AllocError> {
-    let mut replies = Vec::new(alloc);
-    for part in state.parts() {
-        replies.extend_from_slice(answer_of(part))?;
-    }
+) -> Result<LastReply, AllocError>
+    ensures { IfOk result (GivesBytes call (IsReplyOfNodes policy (answers_in state.now.parts))) }
+{
+    let replies = joined_answers(alloc, state)?;
     match combine_answers(alloc, Some(policy), state.parts().len(), &replies) {
         Ok(bytes) => Ok(LastReply::Made(call, bytes)),
-        Err(AnswersFault::Memory) => Err(AllocError),
-        Err(_) => Ok(LastReply::Unfit(call)),
+        Err(fault) => match fault {
+            AnswersFault::Memory => Err(AllocError),
+            _ => Ok(LastReply::Unfit(call)),
+        },
     }
 }
 
+/// The answers to the parts, end to end.
+fn joined_answers(alloc: Global, state: &Call) -> Result<Vec<u8>, AllocError>
+    ensures { IfOk result (λ bytes. bytes.items ≡ concat (answers_in state.now.parts)) }
+{
+    let mut bytes = Vec::new(alloc);
+    let parts = state.parts();
+    for part in parts {
+        bytes.extend_from_slice(answer_of(part))?;
+    }
+    Ok(bytes)
+}
+
 /// Copies of the answers to the parts.
-fn answers_of(alloc: Global, state: &Call) -> Result<Vec<Vec<u8>>, AllocError> {
-    let mut answers = Vec::with_capacity(alloc, state.parts().len())?;
-    for part in state.parts() {
+fn answers_of(alloc: Global, state: &Call) -> Result<Vec<Vec<u8>>, AllocError>
+    ensures { IfOk result (λ answers. map (λ answer. answer.items) answers.items
+        ≡ answers_in state.now.parts) }
+{
+    let parts = state.parts();
+    let mut answers = Vec::with_capacity(alloc, parts.len())?;
+    for part in parts {
         answers.push(answer_of(part).to_vec(alloc)?)?;
     }
     Ok(answers)
@@ -231,7 +315,9 @@ fn fault_reply(
     call: u64,
     state: &Call,
     part: &Part,
-) -> Result<LastReply, AllocError> {
+) -> Result<LastReply, AllocError>
+    ensures { IfOk result (GivesBytes call (IsErrorFor part.now.phase (effect_on state.now.parts))) }
+{
     let effect = effect_of(&fates_of(alloc, state)?);
     if let Phase::Refused(refusal) = part.phase() {
         return match no_tries_reply(alloc, refusal, effect) {
@@ -243,7 +329,9 @@ fn fault_reply(
 }
 
 /// Why a part was not answered.
-fn cause_of(part: &Part) -> ErrorCause {
+fn cause_of(part: &Part) -> ErrorCause
+    ensures { result ≡ cause_of part.now.phase }
+{
     match part.phase() {
         Phase::Refused(_) => ErrorCause::NoTries,
         Phase::Lost => ErrorCause::Lost,
@@ -256,15 +344,20 @@ fn cause_of(part: &Part) -> ErrorCause {
 }
 
 /// What became of the parts of a call.
-fn fates_of(alloc: Global, state: &Call) -> Result<Vec<PartFate>, AllocError> {
-    let mut fates = Vec::with_capacity(alloc, state.parts().len())?;
-    for part in state.parts() {
+fn fates_of(alloc: Global, state: &Call) -> Result<Vec<PartFate>, AllocError>
+    ensures { IfOk result (λ fates. fates.items ≡ map (λ p. fate_of p.phase) state.now.parts) }
+{
+    let parts = state.parts();
+    let mut fates = Vec::with_capacity(alloc, parts.len())?;
+    for part in parts {
         fates.push(fate_of(part))?;
     }
     Ok(fates)
 }
 
-fn fate_of(part: &Part) -> PartFate {
+fn fate_of(part: &Part) -> PartFate
+    ensures { result ≡ fate_of part.now.phase }
+{
     match part.phase() {
         Phase::Waits(_) | Phase::Refused(_) | Phase::Unsent(_) => PartFate::NotRun,
         Phase::Asked(_, _) | Phase::Lost => PartFate::Unknown,

@@ -16,8 +16,8 @@ impl Session {
     ghost use Rattle.session_core.specs.declared.link.Standing.TheVariants.{Open};
     ghost use Rattle.session_core.specs.Channel.{Channel};
     ghost use Rattle.session_core.specs.LinkEvents as events;
-    ghost use Rattle.session_core.specs.State.{Happens, On, IsLink};
-    ghost use Rattle.redis_session.specs.Leads.{Leads, Ends, IsConnected};
+    ghost use Rattle.session_core.specs.State.{On, IsLink};
+    ghost use Rattle.redis_session.specs.Leads.{Does, Leads, Ends, IsConnected};
 
     /// Takes the replies that came on a link, and notes whether it owes more. If no byte came now, its silence goes on.
     pub(crate) fn take_all(
@@ -383,9 +383,9 @@ impl Session {
 
     /// Notes bytes that came on a link that is open.
     pub(crate) fn hear(&mut self, link: usize, bytes: &[u8]) -> Result<(), AllocError>
-        requires { (c : Channel) × IsLink self.old link c × (c.standing ≡ Open) }
-        ensures ok { OnOk result (Happens self.old (On link (events.Hear bytes.now)) self.new) }
-        ensures err { OnErr result (Happens self.old (On link events.Miss) self.new) }
+        requires { (c : Channel) × IsLink self.old.machine link c × (c.standing ≡ Open) }
+        ensures ok { OnOk result (Does (On link (events.Hear bytes.now)) self.old self.new) }
+        ensures err { OnErr result (Does (On link events.Miss) self.old self.new) }
     {
         match self.machine.hear(link, bytes) {
             Ok(()) => Ok(()),
@@ -412,7 +412,7 @@ impl Session {
 
     /// Ends the connection of a link, if it has not ended.
     fn end_connection(&mut self, link: usize)
-        ensures ended { IsConnected self.old link → Happens self.old (On link events.End) self.new }
+        ensures ended { IsConnected self.old link → Does (On link events.End) self.old self.new }
         ensures not { (IsConnected self.old link → ⊥) → self.new ≡ self.old }
     {
         let (Some(Standing::Open) | Some(Standing::Broken)) = self.machine.standing(link) else {

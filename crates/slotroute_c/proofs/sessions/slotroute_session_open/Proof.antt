@@ -46,8 +46,8 @@ use Rattle.std.specs.contracts.impls.GlobalAllocator.TheImpl.{ghosts}
 use Rattle.std.specs.contracts.result.Result as result
 use Rattle.std.specs.declared.result.Result.TheVariants.{Ok, Err}
 use Rattle.slotroute_c.specs.SessionBlocks.{block_owns}
-use Rattle.session_core.specs.State.{State, start}
-use Rattle.slotroute_c.specs.SessionHandles.{opens as opens_to}
+use Rattle.redis_session.specs.SessionStates.{SessionState}
+use Rattle.slotroute_c.specs.SessionHandles.{opened, opens as opens_to}
 use Rattle.redis_session.specs.contracts.session.Session.{the_row as Inner}
 use Rattle.slotroute_c.specs.contracts.sessions.SessionSettings.{the_row as Settings}
 use Rattle.slotroute_c.specs.contracts.block.Block.{the_row as block_row}
@@ -81,14 +81,14 @@ abbrev made_val : Val → ℕ → ℕ → Val
 made_val hv b o = live 0 (vcons (word Boxed hv b o) vnil)
 
 -- what came of the call that makes the block
-outcomes : {M : Type 1} {K : Type 0} {𝓤 : Ura M} {𝓛 : Logic 𝓤} {Γ : List (Item 𝓤)} {G : Goal 𝓤 𝓛.H} → K → (alloc : Heap.Denot) (old : Ptr) (r : Outcome.Denot) (u : Val) → IfOk r (λ x. x.value ≡ start)
+outcomes : {M : Type 1} {K : Type 0} {𝓤 : Ura M} {𝓛 : Logic 𝓤} {Γ : List (Item 𝓤)} {G : Goal 𝓤 𝓛.H} → K → (alloc : Heap.Denot) (old : Ptr) (r : Outcome.Denot) (u : Val) → IfOk r (λ x. x.value ≡ opened)
     → ((b o : ℕ) (hv : Val) → u ≡ made_val hv b o → Fits (Boxed.al) hv → Seq K 𝓛 (‵ (opens_to alloc 0 old (block_ptr b o)) ∷ Γ) G)
     → (u ≡ live 1 (vcons (vstruct vnil) vnil) → Seq K 𝓛 Γ G)
     → Seq K 𝓛 (‵ (Outcome.own_val r (u ∷ [])) ∷ Γ) G
 outcomes t alloc old (Ok x) u new made none =
     fpick t (λ us. fsplit t $ feq_l t (λ u_is. fpick t (λ words. fsplit t $ feq_l t (λ us_is. fsplit t $ move t (1 ∷ []) $ drop t $
     box_out Boxed t (as_box x) words.0 (λ b o hv at word_is fits. fjoin t $ move t (1 ∷ []) $ drop t $
-    rewrite t 0 (λ (y : State). ‵ (block_owns alloc (block_ptr b o) y)) new refl $
+    rewrite t 0 (λ (y : SessionState). ‵ (block_owns alloc (block_ptr b o) y)) new refl $
     made b o hv (ap only (u_is ∙ (λ j. live 0 (of_list ((us_is ∙ ap (λ (ws : List Val). ws ++ []) word_is) j)) ∷ []))) fits)))))
 outcomes t alloc old (Err x) u new made none =
     fpick t (λ us. fsplit t $ feq_l t (λ u_is. fpick t (λ words. fsplit t $ feq_l t (λ us_is. fsplit t $ move t (1 ∷ []) $ drop t $
@@ -137,8 +137,8 @@ slotroute_session_open_spec 𝓤 𝓛 𝓜 𝓡 wired =
     nothing ! $ move ! (3 ∷ 0 ∷ []) $ join ! $ move ! (2 ∷ 0 ∷ []) $ join ! $ join ! $ nothing ! $ move ! (1 ∷ 0 ∷ []) $ join ! $ use1 𝓛 (raw (G.pre y)) (id⊢ 𝓤 _) $
     calls_at ! (framed 𝓤 𝓛.H 𝓜 𝓣) G (met 𝓤 𝓛 𝓜 𝓡 (code.calls-slotroute_c::sessions::on_heap 𝓡.env wired)) y (and_then ! (get ! refl) (and_then ! (get ! refl) (and_then ! (get ! refl) (no_more !)))) (λ u.
     use1 𝓛 (later (some (λ (r : Outcome.Denot). ((‵ (flft κs.0 qs.0) ⊛ ‵ (flft κs.1.0 qs.1.0) ⊛ ‵ ftrue) ⊛ ‵ (Outcome.own_val r (u ∷ [])))
-    ⊛ some (λ (ws : Lasts g.ended y.0.0 y.0.3). ‵ (lasts g.ended y.0.0 y.0.3 ws) ⊛ raw (fact 𝓤 (IfOk r (λ x. x.value ≡ start))))))) (id⊢ 𝓤 _) $
-    await ! tt $ pick ! (λ r. split ! $ move ! (1 ∷ []) $ pick ! (λ ws. split ! $ drop ! $ heard ! (IfOk r (λ x. x.value ≡ start)) (λ new. split ! $ move ! (1 ∷ []) $
+    ⊛ some (λ (ws : Lasts g.ended y.0.0 y.0.3). ‵ (lasts g.ended y.0.0 y.0.3 ws) ⊛ raw (fact 𝓤 (IfOk r (λ x. x.value ≡ opened))))))) (id⊢ 𝓤 _) $
+    await ! tt $ pick ! (λ r. split ! $ move ! (1 ∷ []) $ pick ! (λ ws. split ! $ drop ! $ heard ! (IfOk r (λ x. x.value ≡ opened)) (λ new. split ! $ move ! (1 ∷ []) $
     outcomes ! alloc out.now r u new
     (λ b o hv' u_is fits'. let typed = box_typed Boxed hv' b o fits' in
     lands_as ! u_is refl (and_tt _ typed.0, (record { fits = lit< tt }, (typed.1, tt))) $

@@ -1,0 +1,184 @@
+-- The reply to a call, by what was made of its parts.
+use Rattle.std.proofs.Common.{◌≡◌, ◌≢◌, ◌∙◌, ◌-◌, ◌⊎◌, inl, inr, ℕ, Bool, true, false, List, [], ◌∷◌, Option, None, Some, Ok, Err, map, refl, sym, ap, subst, length, arith}
+use Rattle.std.specs.Prelude.{Result, IfErr, IfOk, IfSome, MatchOption, MatchResult, nat_lt, if◌then◌else◌}
+use Rattle.std.specs.List.{concat, find, slice_get}
+use Rattle.std.specs.Option.{option_and_then, option_map}
+use Rattle.std.specs.declared.vec.Vec.{Vec}
+use Rattle.std.specs.declared.alloc.Global.{Global}
+use Rattle.std.proofs.lemmas.Option.{same_Some}
+use Rattle.redis_routing.specs.Names.{Names}
+use Rattle.redis_routing.specs.Split.{Split}
+use Rattle.redis_bytes.specs.Replies.{AreCombined, IsUncombined}
+use Rattle.redis_bytes.specs.Requests.{IsSplitRequest}
+use Rattle.redis_bytes.specs.declared.fault.BytesFault.{BytesFault}
+use Rattle.redis_bytes.specs.declared.fault.BytesFault.TheVariants.{Memory}
+use Rattle.session_core.specs.Part.{Phase, PartState, Waits, Asked, Answered, Lost, Refused, Unsent}
+use Rattle.session_core.specs.State.{CallState, State, Event, Finish, Happens, after, call_after, call_at, numbered, part_at}
+use Rattle.session_core.proofs.AfterEvents.{slice_get-numbered}
+use Rattle.redis_session.specs.CallReplies.{GivesBytes, IsErrorFor, IsMadeBy, IsOnly, IsReplyOfNodes, IsReplyTo, IsSplitReply, answers_in, cause_of, effect_on, first_unanswered}
+use Rattle.redis_session.specs.Leads.{Finishes}
+use Rattle.redis_session.specs.SessionStates.{Given, Nothing, OfPart, Bytes, SessionState, answer_in, bytes_of, given_of, names}
+use Rattle.redis_session.specs.SplitReplies.{first_error, joined}
+use Rattle.redis_session.specs.Told.{error_reply, unfit_reply}
+use Rattle.redis_session.specs.declared.schedule.ReplyRule.{ReplyRule}
+use Rattle.redis_session.specs.declared.schedule.ReplyRule.TheVariants as rules
+use Rattle.redis_session.specs.declared.session.replying.LastReply.{LastReply}
+use Rattle.redis_session.specs.declared.told.Effect.{Effect}
+use Rattle.redis_session.specs.declared.told.ErrorCause.{ErrorCause}
+use Rattle.redis_routing.specs.declared.policy.ResponsePolicy.{ResponsePolicy}
+use Rattle.redis_bytes.specs.Several.{IsUnreplied}
+use Rattle.redis_bytes.specs.declared.answers_fault.AnswersFault.{AnswersFault}
+use Rattle.redis_bytes.specs.declared.answers_fault.AnswersFault.TheVariants as faults
+
+pub given_bytes : (s : State) (call : ℕ) (IsSuch : List ℕ → Type 0) (reply : LastReply) → GivesBytes call IsSuch reply → IsSuch (bytes_of (given_of reply) s)
+given_bytes s call IsSuch reply gives = subst IsSuch (sym (ap (λ (g : Given). bytes_of g s) gives.1)) gives.2
+
+pub error_for : (phase : Phase) (effect : Effect) → IsErrorFor phase effect (error_reply (cause_of phase) effect)
+error_for (Refused error) effect = inr refl
+error_for (Waits left) effect = refl
+error_for (Asked link left) effect = refl
+error_for (Answered reply) effect = refl
+error_for Lost effect = refl
+error_for (Unsent cause) effect = refl
+
+abbrev pub GivesError : ℕ → Phase → Effect → List ℕ → Type 0
+GivesError call phase on error = (bytes : List ℕ) × (Bytes call error ≡ Bytes call bytes) × IsErrorFor phase on bytes
+
+only_of : (parts : List PartState) → length parts ≡ 1 → IsOnly (answers_in parts) (answer_in (slice_get parts 0))
+only_of [] one = absurd (omega (arith, one))
+only_of (p ∷ []) one = refl
+only_of (p ∷ q ∷ parts) one = absurd (omega (arith, one))
+
+pub error_given : (call : ℕ) (phase : Phase) (effect on : Effect) (cause : ErrorCause) → cause ≡ cause_of phase → effect ≡ on
+    → GivesError call phase on (error_reply cause effect)
+error_given call phase effect on cause is acts =
+    (error_reply cause effect, refl, rw (is, acts) (error_for phase on))
+
+pub only_part : (call : ℕ) (s : State) (state : CallState) (parts : List PartState) → call_at call s ≡ Some state → parts ≡ state.parts → length parts ≡ 1
+    → IsOnly (answers_in state.parts) (answer_in (part_at call 0 s))
+only_part call s state parts at is one =
+    rw at (only_of state.parts (ap length (sym is) ∙ one))
+
+pub reply_unanswered : (names : Names) (rule : ReplyRule) (parts : List PartState) (reply : List ℕ) (part : PartState) → Some part ≡ first_unanswered parts
+    → IsErrorFor part.phase (effect_on parts) reply → IsReplyTo names rule parts reply
+reply_unanswered names rule parts reply part is error =
+    subst (λ (o : Option PartState). MatchOption o (IsMadeBy names rule (answers_in parts) reply) (λ p. IsErrorFor p.phase (effect_on parts) reply)) is error
+
+pub reply_made : (names : Names) (rule : ReplyRule) (parts : List PartState) (reply : List ℕ) → None ≡ first_unanswered parts
+    → IsMadeBy names rule (answers_in parts) reply → IsReplyTo names rule parts reply
+reply_made names rule parts reply none made =
+    subst (λ (o : Option PartState). MatchOption o (IsMadeBy names rule (answers_in parts) reply) (λ p. IsErrorFor p.phase (effect_on parts) reply)) none made
+
+-- ---- split commands
+
+module _ (names : Names) (request : List ℕ) where
+  pub split_made : (answers : List (Vec ℕ Global)) (found : Option (List ℕ)) (reply : List ℕ) → first_error answers ≡ found
+      → IfSome found (λ error. reply ≡ error)
+      → (found ≡ None → (split : Split) × IsSplitRequest names request split × AreCombined split (joined answers) reply)
+      → IsSplitReply names request (map (λ answer. answer.items) answers) reply
+  split_made answers None reply is error combined = rw is (inl (combined refl))
+  split_made answers (Some text) reply is error combined = rw is error
+
+  pub split_unfit : (answers : List (Vec ℕ Global)) (found : Option (List ℕ)) (fault : BytesFault) → first_error answers ≡ found
+      → IfSome found (λ error. fault ≡ Memory) → IsUncombined names request (joined answers) fault → fault ≢ Memory
+      → IsSplitReply names request (map (λ answer. answer.items) answers) unfit_reply
+  split_unfit answers None fault is error cause other = rw is (inr (refl, (fault, other, cause)))
+  split_unfit answers (Some text) fault is error cause other = absurd (other error)
+
+pub split_given : (own all : Names) (request : List ℕ) (answers : List (Vec ℕ Global)) (texts : List (List ℕ)) (reply : List ℕ) → own ≡ all
+    → map (λ answer. answer.items) answers ≡ texts → IfSome (first_error answers) (λ error. reply ≡ error)
+    → (first_error answers ≡ None → (split : Split) × IsSplitRequest own request split × AreCombined split (joined answers) reply)
+    → IsSplitReply all request texts reply
+split_given own all request answers texts reply same are error combined =
+    subst (λ (n : Names). IsSplitReply n request texts reply) same (subst (λ (t : List (List ℕ)). IsSplitReply own request t reply) are
+    (split_made own request answers (first_error answers) reply refl error combined))
+
+pub split_not_given : (own all : Names) (request : List ℕ) (answers : List (Vec ℕ Global)) (texts : List (List ℕ)) (fault : BytesFault) → own ≡ all
+    → map (λ answer. answer.items) answers ≡ texts → IfSome (first_error answers) (λ error. fault ≡ Memory) → IsUncombined own request (joined answers) fault → fault ≢ Memory
+    → IsSplitReply all request texts unfit_reply
+split_not_given own all request answers texts fault same are error cause other =
+    subst (λ (n : Names). IsSplitReply n request texts unfit_reply) same (subst (λ (t : List (List ℕ)). IsSplitReply own request t unfit_reply) are
+    (split_unfit own request answers (first_error answers) fault refl error cause other))
+
+-- ---- commands to several nodes
+
+pub nodes_unfit : (policy : ResponsePolicy) (answers : List (List ℕ)) (count : ℕ) (bytes : List ℕ) (fault : AnswersFault) → count ≡ length answers → bytes ≡ concat answers
+    → IsUnreplied (Some policy) count bytes fault → fault ≢ faults.Memory → IsReplyOfNodes policy answers unfit_reply
+nodes_unfit policy answers count bytes fault all are cause other =
+    inr (refl, (fault, other, subst (λ (n : ℕ). IsUnreplied (Some policy) n (concat answers) fault) all (subst (λ (b : List ℕ). IsUnreplied (Some policy) count b fault) are cause)))
+
+pub ok_as : {X E : Type 0} (result : Result X E) (P Q : X → Type 0) → IfOk result P → ((x : X) → P x → Q x) → IfOk result Q
+ok_as (Ok x) P Q p q = q x p
+ok_as (Err y) P Q p q = tt
+
+-- ---- each call
+
+-- the call, if it is there, has this reply by a rule
+abbrev pub HasReply : SessionState → ℕ → LastReply → Type 0
+HasReply s call reply = (it : CallState) → call_at call s.machine ≡ Some it
+    → (rule : ReplyRule) × IsReplyTo (names s) rule it.parts (bytes_of (given_of reply) s.machine)
+
+module _ {E : Type 0} (before now : SessionState) (call : ℕ) (state : CallState) (result : Result LastReply E) (same : before ≡ now) (at : call_at call before.machine ≡ Some state) where
+  for_state : (reply : LastReply) (rule : ReplyRule) → IsReplyTo (names now) rule state.parts (bytes_of (given_of reply) now.machine) → HasReply now call reply
+  for_state reply rule made it its =
+      let there : call_at call now.machine ≡ Some state = subst (λ (s : SessionState). call_at call s.machine ≡ Some state) same at in
+      (rule, subst (λ (x : CallState). IsReplyTo (names now) rule x.parts (bytes_of (given_of reply) now.machine)) (same_Some state it (sym there ∙ its)) made)
+
+  pub fault_there : (part : PartState) → Some part ≡ first_unanswered state.parts → IfOk result (GivesBytes call (IsErrorFor part.phase (effect_on state.parts))) → IfOk result (HasReply now call)
+  fault_there part is gives = ok_as result (GivesBytes call (IsErrorFor part.phase (effect_on state.parts))) (HasReply now call) gives
+      (λ reply given. for_state reply rules.One (reply_unanswered (names now) rules.One state.parts (bytes_of (given_of reply) now.machine) part is
+      (given_bytes now.machine call (IsErrorFor part.phase (effect_on state.parts)) reply given)))
+
+  pub split_there : (request : Vec ℕ Global) (text : List ℕ) → None ≡ first_unanswered state.parts → text ≡ request.items
+      → IfOk result (GivesBytes call (IsSplitReply (names now) text (answers_in state.parts))) → IfOk result (HasReply now call)
+  split_there request text none is gives = ok_as result (GivesBytes call (IsSplitReply (names now) text (answers_in state.parts))) (HasReply now call) gives
+      (λ reply given. for_state reply (rules.Split request) (reply_made (names now) (rules.Split request) state.parts (bytes_of (given_of reply) now.machine) none
+      (subst (λ (t : List ℕ). IsSplitReply (names now) t (answers_in state.parts) (bytes_of (given_of reply) now.machine)) is
+      (given_bytes now.machine call (IsSplitReply (names now) text (answers_in state.parts)) reply given))))
+
+  pub several_there : (policy : ResponsePolicy) → None ≡ first_unanswered state.parts
+      → IfOk result (GivesBytes call (IsReplyOfNodes policy (answers_in state.parts))) → IfOk result (HasReply now call)
+  several_there policy none gives = ok_as result (GivesBytes call (IsReplyOfNodes policy (answers_in state.parts))) (HasReply now call) gives
+      (λ reply given. for_state reply (rules.Several policy) (reply_made (names now) (rules.Several policy) state.parts (bytes_of (given_of reply) now.machine) none
+      (given_bytes now.machine call (IsReplyOfNodes policy (answers_in state.parts)) reply given)))
+
+-- ---- what a call has for a reply, after it went out
+
+same_first : (parts : List PartState) → slice_get (numbered (λ part p. record p { phase = p.phase }) 0 parts) 0 ≡ slice_get parts 0
+same_first [] = refl
+same_first (p ∷ parts) = refl
+
+
+first_through : (f : CallState → CallState) (o : Option CallState) → ((x : CallState) → slice_get (f x).parts 0 ≡ slice_get x.parts 0) → option_and_then (λ c. slice_get c.parts 0) (option_map f o) ≡ option_and_then (λ c. slice_get c.parts 0) o
+first_through f None same = refl
+first_through f (Some x) same = same x
+
+pub part_stays : (c call : ℕ) (state : CallState) (s : State) → part_at c 0 (after (Finish call state) s) ≡ part_at c 0 s
+part_stays c call state s =
+    let f : ℕ → CallState → CallState = call_after (Finish call state) in
+    let first : Option CallState → Option PartState = λ o. option_and_then (λ x. slice_get x.parts 0) o in
+    elim (nat_lt c s.first) as (λ b. first (if b then None else slice_get (numbered f s.first s.calls) (c - s.first)) ≡ first (if b then None else slice_get s.calls (c - s.first)))
+    [ true ↦ refl
+    | false ↦ ap first (slice_get-numbered f s.first s.calls (c - s.first)) ∙ first_through (f _) (slice_get s.calls (c - s.first)) (λ x. same_first x.parts) ]
+
+pub bytes_stay : (given : Given) (call : ℕ) (state : CallState) (s : State) → bytes_of given (after (Finish call state) s) ≡ bytes_of given s
+bytes_stay Nothing call state s = refl
+bytes_stay (OfPart c) call state s = ap answer_in (part_stays c call state s)
+bytes_stay (Bytes c bytes) call state s = refl
+
+pub finishes_by : (caller call : ℕ) (old now : SessionState) (machine : State) (reply : LastReply) (owed state : CallState) → old ≡ now
+    → call_at call old.machine ≡ Some owed → owed.caller ≡ caller → Happens old.machine (Finish call state) machine
+    → HasReply now call reply → Finishes caller call now (record old { machine = machine; given = given_of reply })
+finishes_by caller call old now machine reply owed state same at its happens made =
+    let of_old : HasReply old call reply = subst (λ (s : SessionState). HasReply s call reply) (sym same) made in
+    let it = of_old state happens.may.call_is in
+    let bytes : bytes_of (given_of reply) machine ≡ bytes_of (given_of reply) old.machine =
+        ap (bytes_of (given_of reply)) happens.is ∙ bytes_stay (given_of reply) call state old.machine in
+    subst (λ (s : SessionState). Finishes caller call s (record old { machine = machine; given = given_of reply })) same (record {
+      state = state;
+      given = happens;
+      caller_is = ap (λ (x : CallState). x.caller) (same_Some state owed (sym happens.may.call_is ∙ at)) ∙ its;
+      rule = it.0;
+      reply_is = subst (IsReplyTo (names old) it.0 state.parts) (sym bytes) it.1;
+      others = refl;
+    })

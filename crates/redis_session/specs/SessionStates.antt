@@ -1,0 +1,67 @@
+-- What contracts see of a session.
+use Rattle.std.specs.Prelude.{ℕ, List, [], Option, None, Some}
+use Rattle.session_core.specs.Part.{Phase, PartState, Answered}
+use Rattle.session_core.specs.State.{State, part_at, start}
+use Rattle.redis_routing.specs.Names.{Names, names_of}
+use Rattle.redis_routing.specs.Registry.{Registrations}
+use Rattle.redis_session.specs.Added.{Added}
+use Rattle.redis_session.specs.Told.{error_reply, unfit_reply}
+use Rattle.redis_session.specs.declared.session.replying.LastReply.{LastReply}
+use Rattle.redis_session.specs.declared.session.replying.LastReply.TheVariants as last
+
+-- The reply that was given last.
+pub data Given : Type 0 where
+  Nothing : Given
+  -- the answer to the one part of this call
+  OfPart : (call : ℕ) → Given
+  -- these bytes, for this call
+  Bytes : (call : ℕ) → (bytes : List ℕ) → Given
+
+abbrev pub given_of : LastReply → Given
+given_of last.Nothing = Nothing
+given_of (last.OfPart call) = OfPart call
+given_of (last.Made call bytes) = Bytes call bytes.items
+given_of (last.Error call cause effect) = Bytes call (error_reply cause effect)
+given_of (last.Unfit call) = Bytes call unfit_reply
+
+pub record SessionState : Type 0 where
+  -- its links and its calls
+  pub machine : State
+  pub given : Given
+  -- the names of the commands that only read
+  pub read_only : List (List ℕ)
+  -- the multi-key commands that the tables lack
+  pub registered : Registrations
+  -- the names that shared links take besides those of the table
+  pub added : Added
+
+-- a session of no links and no calls, which was told of these names
+abbrev pub new_session : List (List ℕ) → Registrations → Added → SessionState
+new_session read_only registered added =
+    record { machine = start; given = Nothing; read_only = read_only; registered = registered; added = added }
+
+-- what it was told of names when it began
+abbrev pub names : SessionState → Names
+names s = names_of s.read_only s.registered
+
+-- the last reply is forgotten
+abbrev pub without_reply : SessionState → SessionState
+without_reply s = record s { given = Nothing }
+
+-- the answer that a part has, if it has one
+abbrev pub answer_of : Phase → List ℕ
+answer_of (Answered reply) = reply
+answer_of other = []
+
+abbrev pub answer_in : Option PartState → List ℕ
+answer_in None = []
+answer_in (Some p) = answer_of p.phase
+
+-- the bytes of the reply that was given last
+abbrev pub bytes_of : Given → State → List ℕ
+bytes_of Nothing s = []
+bytes_of (OfPart call) s = answer_in (part_at call 0 s)
+bytes_of (Bytes call bytes) s = bytes
+
+abbrev pub last_reply : SessionState → List ℕ
+last_reply s = bytes_of s.given s.machine
