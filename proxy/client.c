@@ -93,7 +93,7 @@ void client_free(client *it) {
 }
 
 /* The replies that a client has not read. */
-static size_t unread(const client *it) { return buffer_len(&it->out) + it->kept; }
+static size_t unread(const client *it) { return buffer_len(&it->out) + buffer_len(&it->early) + it->kept; }
 
 /* Whether the next request may wait until nodes have answered the earlier ones. It never waits for the client
  * to read: a client may write all of its requests first. */
@@ -142,8 +142,7 @@ static bool take(client *it, const uint8_t *bytes, size_t len) {
     command_kind kind = command_of(bytes, len);
     words words = words_of(bytes, len);
     const char *refusal = command_refusal(kind), *refusal_now = refusal_of_state(it, kind);
-    bool is_taken =
-        kind == COMMAND_TAKEN || kind == COMMAND_SPLIT || kind == COMMAND_SCRIPT || kind == COMMAND_STREAM;
+    bool is_taken = kind >= COMMAND_TAKEN && kind <= COMMAND_PUBLISH;
     bool has_begun = true;
     if (words.left == 0)
         return true; /* a server does not answer a request of no words either */
@@ -279,6 +278,8 @@ void client_tick(client *it) {
         client_touch(it);
     if (it->own != NULL)
         node_tick(it->own);
+    for (node *ear = it->ears; ear != NULL; ear = ear->next_ear)
+        node_tick(ear);
     if (it->worker->now - it->active_at > SECOND && buffer_len(&it->out) == 0)
         buffer_free(&it->out); /* it is idle */
     if (it->worker->now - it->active_at > SECOND && buffer_len(&it->in) == 0)

@@ -8,14 +8,16 @@
 
 /* Nodes answer a TAKEN command once and at once, and it leaves the connection, which many clients
  * share, as it was. A SPLIT is such a command that the library splits by slot. A SCRIPT is such a command
- * that runs code: an error of it may follow effects. A STREAM is one unless it has the word BLOCK. BLOCKING
- * ones and SUBSCRIPTIONs go over a connection of the client's own. The proxy answers those from PING on. */
+ * that runs code: an error of it may follow effects. A STREAM is one unless it has the word BLOCK. PUBLISH
+ * goes to the node that has all subscriptions. BLOCKING ones and SUBSCRIPTIONs go over a connection of the
+ * client's own. The proxy answers those from PING on. */
 typedef enum command_kind {
     COMMAND_UNKNOWN,
     COMMAND_TAKEN,
     COMMAND_SPLIT,
     COMMAND_SCRIPT,
     COMMAND_STREAM,
+    COMMAND_PUBLISH,
     COMMAND_TRANSACTION,
     COMMAND_SUBSCRIPTION,
     COMMAND_MONITOR,

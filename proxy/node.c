@@ -213,7 +213,7 @@ static void lose(node *it) {
             topology_lost(it, lost->client_id);
     }
     memory_give(queue, room * sizeof *queue);
-    if (it->client != NULL && it->client->is_subscribed)
+    if (it->client != NULL && (it->client->is_subscribed || it != it->client->own))
         client_doom(it->client, "the connection with its subscriptions was lost");
     topology_want(it->worker);
 }

@@ -20,7 +20,9 @@ node *part_node(const request *it, uint32_t at) {
     node *to = part->to != NULL        ? part->to
                : part->slot == NO_SLOT ? topology_any(worker)
                                        : topology_owner(worker, part->slot);
-    return to != NULL && it->is_private ? private_node(it->client, to) : to;
+    if (to == NULL || !it->is_private)
+        return to;
+    return at + 1 < it->parts ? private_ear(it->client, to) : private_node(it->client, to);
 }
 
 void part_send(request *it, uint32_t at) {
@@ -137,7 +139,7 @@ void part_reply(request *it, uint32_t at, node *from, const uint8_t *reply, size
     if (client == NULL) {
         drop(it, at);
     } else if (it->is_subscription) {
-        subscription_end(it, reply, len);
+        subscription_end(it, at, reply, len);
     } else if (reply[0] != '-') {
         part_finish(it, at, reply, len);
     } else if (it->queued > 0 ? !transaction_follow(it, from, reply, len)

@@ -92,7 +92,10 @@ struct client {
     bool is_paused;                       /* it waits because of the memory of all */
     bool is_subscribed;
     bool is_elsewhere; /* it selected another database than 0, and was refused */
-    node *own; /* a connection that it has alone, or NULL */
+    node *own;         /* a connection that it has alone, or NULL */
+    node *ears;        /* connections to the other primaries, which tell it of their keys */
+    buffer told;       /* requests that subscribe to what is told of keys, each with one name */
+    buffer early;      /* messages that come before the replies to a command about subscriptions */
     bool is_multi, is_multi_bad;
     buffer multi; /* the commands since MULTI */
     uint32_t multi_count;
@@ -130,9 +133,9 @@ struct node {
     uint64_t failed;  /* when a connection failed last, or 0 */
     const char *lost; /* why the connection is closed at the end of the round, or NULL */
     char why[128];
-    node *next_dirty, *next_left;
+    node *next_dirty, *next_left, *next_ear;
     client *client; /* who has it alone, or NULL */
-    bool is_dirty, is_failing, is_in_map, is_private;
+    bool is_dirty, is_failing, is_in_map, is_primary, is_private;
     bool is_new; /* what it owes was asked for since the last write */
 };
 

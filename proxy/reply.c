@@ -15,8 +15,9 @@ static void write_fault(const request *it, uint32_t answer, size_t at, buffer *o
 
 void reply_write(request *it, buffer *out) {
     size_t at = 0;
-    if (it->parts == 1 && it->policy == 0) {
-        buffer_put(out, reply_of(&it->one), it->one.reply_len);
+    if (it->is_subscription || (it->parts == 1 && it->policy == 0)) {
+        const part *last = &it->part[it->parts - 1];
+        buffer_put(out, reply_of(last), last->reply_len);
     } else {
         buffer *all = layer_replies();
         for (uint32_t part = 0; part < it->parts; part++)

@@ -2,6 +2,7 @@
 
 #include "client.h"
 #include "order.h"
+#include "topology.h"
 
 #include <string.h>
 
@@ -123,7 +124,7 @@ bool request_begin(client *client, const uint8_t *bytes, size_t len, command_kin
     if (is_alone && client->first != NULL)
         return false;
     if (to.kind == SLOTROUTE_TO_SLOT)
-        begin_one(client, bytes, len, (uint16_t)to.slot, kind);
+        begin_one(client, bytes, len, kind == COMMAND_PUBLISH ? HERALD_SLOT : (uint16_t)to.slot, kind);
     else if (to.kind == SLOTROUTE_TO_ALL)
         begin_many(client, bytes, len, map->all, map->all_count, to.policy);
     else if (to.kind == SLOTROUTE_TO_ALL_PRIMARIES)
@@ -135,11 +136,23 @@ bool request_begin(client *client, const uint8_t *bytes, size_t len, command_kin
     return true;
 }
 
-void request_begin_subscription(client *client, const buffer *bytes, node *to) {
-    request *it = request_new(client, buffer_at(bytes), buffer_len(bytes), 1, NULL);
+void request_begin_subscription(client *client, const buffer *bytes, size_t len, node *to) {
+    topology *map = &client->worker->map;
+    bool has_ears = len < buffer_len(bytes);
+    uint32_t last = has_ears ? (uint32_t)map->primary_count - to->is_primary : 0;
+    request *it = request_new(client, buffer_at(bytes), buffer_len(bytes), last + 1, NULL);
     it->is_subscription = it->is_private = client->is_alone = true;
-    it->one = (part){.end = it->len, .slot = NO_SLOT, .to = to};
-    part_begin(it, 0);
+    it->part[last] = (part){.end = len, .slot = NO_SLOT, .to = to};
+    for (uint32_t at = 0, primary = 0; at < last; primary++)
+        if (map->primaries[primary] != to)
+            it->part[at++] =
+                (part){.start = len, .end = it->len, .slot = NO_SLOT, .to = map->primaries[primary]};
+    for (uint32_t at = 0; at < last; at++)
+        part_send(it, at);
+    if (last > 0)
+        part_hold(it, last, PART_HELD); /* it goes out once the others are done */
+    else
+        part_begin(it, 0);
 }
 
 void request_answer_own(client *client, const char *text, size_t len) {

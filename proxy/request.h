@@ -13,9 +13,9 @@ bool request_begin(client *client, const uint8_t *bytes, size_t len, command_kin
 void request_begin_transaction(client *client, const uint8_t *bytes, size_t len, uint16_t slot,
                                uint32_t queued);
 
-/* Sends a command about subscriptions, and what asks the node for the end of its replies. `to` has the
- * client's subscriptions, or is NULL for any node. */
-void request_begin_subscription(client *client, const buffer *bytes, node *to);
+/* Sends a command about subscriptions to the node that has them. The first `len` bytes are the command, and
+ * what asks the node for the end of its replies. The rest goes to all other primaries before. */
+void request_begin_subscription(client *client, const buffer *bytes, size_t len, node *to);
 
 /* Answers a request with a text of the proxy's own, once the earlier ones are answered. */
 void request_answer_own(client *client, const char *text, size_t len);

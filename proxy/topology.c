@@ -2,6 +2,7 @@
 
 #include "node.h"
 #include "peer.h"
+#include "subscription.h"
 
 #include <stdio.h>
 #include <stdlib.h>
@@ -48,6 +49,11 @@ node *topology_any(worker *worker) {
             return it;
     }
     return map->primary_count > 0 ? map->primaries[0] : NULL;
+}
+
+node *topology_herald(worker *worker) {
+    node *it = topology_owner(worker, HERALD_SLOT);
+    return it != NULL && !it->is_failing ? it : topology_any(worker);
 }
 
 /* The nodes of lines HOST:PORT. Returns how many there are. */
@@ -124,11 +130,13 @@ static bool take_map(worker *worker, node *from, const uint8_t *reply, size_t le
     if (is_map) {
         size_t count = nodes_of(worker, &lines, found, MOST_NODES);
         for (size_t at = 0; at < worker->node_count; at++)
-            worker->nodes[at]->is_in_map = false;
+            worker->nodes[at]->is_in_map = worker->nodes[at]->is_primary = false;
         map->primary_count = map->all_count = 0;
         add_all(map, found, count);
         memcpy(map->primaries, map->all, map->all_count * sizeof *map->all);
         map->primary_count = map->all_count;
+        for (size_t at = 0; at < map->primary_count; at++)
+            map->primaries[at]->is_primary = true;
         take_owners(worker, numbers, found, count);
         buffer_drop(&lines, buffer_len(&lines));
         layer_replicas(&text, from->host, &lines);
@@ -195,6 +203,8 @@ void topology_reply(node *from, uint64_t number, const uint8_t *reply, size_t le
         go_on(worker);
         return;
     }
+    for (client *at = worker->clients; at != NULL; at = at->next)
+        subscription_follow(at);
     bool is_failing = false;
     for (size_t at = 0; at < map->primary_count; at++)
         is_failing |= map->primaries[at]->is_failing && worker->now - map->primaries[at]->failed < RECENT;

@@ -285,22 +285,6 @@ def try_subscription_storm():
     return found.keys() == {"right", "in turn"} and found["right"] == 5 * 30 * 102
 
 
-def try_keys_told():
-    """Channels on which each node tells of its own keys are refused. Others are not, nor are patterns for all."""
-    client, subscriber = Client(), Client()
-    found = [
-        client.ask(*it.split())[:40]
-        for it in ("PSUBSCRIBE __keyspace@0__:*", "SUBSCRIBE news __keyevent@0__:del", "PSUBSCRIBE __key*", "psubscribe __keyevent@*__:expired")
-    ]
-    subscriber.ask("SUBSCRIBE", "news")
-    found.append(subscriber.ask("SUBSCRIBE", "__keyspace@0__:foo")[:40])
-    client.ask("PUBLISH", "news", "x")
-    rest = [subscriber.reply(), client.ask("SET", "foo", "1"), client.ask("PSUBSCRIBE", "*"), client.ask("SUBSCRIBE", "_key", "key")[2]]
-    print(found, rest)
-    wanted = [[b"message", b"news", b"x"], "+OK", [b"psubscribe", b"*", 1], 2]
-    return found == ["-ERR the proxy does not take channels wh"] * 5 and rest == wanted
-
-
 def try_selected():
     """After a refused SELECT nothing takes effect until SELECT 0. So what is meant for another database leaves this one as it is."""
     client = Client()
