@@ -6,6 +6,7 @@
 #include "peer.h"
 #include "private.h"
 #include "request.h"
+#include "scan.h"
 #include "subscription.h"
 #include "transaction.h"
 
@@ -158,6 +159,8 @@ static bool take(client *it, const uint8_t *bytes, size_t len) {
         refuse(it, words, refusal);
     else if (kind == COMMAND_SUBSCRIPTION)
         has_begun = subscription_begin(it, bytes, len);
+    else if (kind == COMMAND_CURSOR)
+        scan_begin(it, bytes, len);
     else if (is_taken || kind == COMMAND_BLOCKING)
         has_begun = request_begin(it, bytes, len, kind);
     else

@@ -200,8 +200,6 @@ const char *command_refusal(command_kind kind) {
         return "it is about one node";
     case COMMAND_WAIT:
         return "it is about the writes of one connection";
-    case COMMAND_CURSOR:
-        return "it is about one node: send it to each";
     case COMMAND_ADMIN:
         return "it manages a node: send it there";
     default:

@@ -5,6 +5,7 @@
 #include "node.h"
 #include "order.h"
 #include "private.h"
+#include "scan.h"
 #include "subscription.h"
 #include "topology.h"
 #include "transaction.h"
@@ -140,6 +141,8 @@ void part_reply(request *it, uint32_t at, node *from, const uint8_t *reply, size
         drop(it, at);
     } else if (it->is_subscription) {
         subscription_end(it, at, reply, len);
+    } else if (it->is_scan && reply[0] == '*') {
+        scan_end(it, from, reply, len);
     } else if (reply[0] != '-') {
         part_finish(it, at, reply, len);
     } else if (it->queued > 0 ? !transaction_follow(it, from, reply, len)
@@ -152,10 +155,11 @@ void part_reply(request *it, uint32_t at, node *from, const uint8_t *reply, size
 }
 
 part_fate part_fate_of(const request *it, bool was_sent) {
+    bool is_for_one_node = it->policy != 0 || it->is_scan;
     return it->client == NULL ? FATE_NOBODY
            : was_sent         ? FATE_UNSURE
-           : it->policy == 0  ? FATE_AGAIN
-                              : FATE_NO_EFFECT;
+           : is_for_one_node  ? FATE_NO_EFFECT
+                              : FATE_AGAIN;
 }
 
 void part_lost(request *it, uint32_t at, node *lost_at, bool was_sent) {

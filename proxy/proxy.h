@@ -59,7 +59,7 @@ struct request {
     uint64_t client_id, start;
     uint32_t parts, left, in_flight; /* all parts, those not done, those sent */
     uint32_t policy;
-    bool is_split, is_script, is_private;
+    bool is_split, is_script, is_private, is_scan;
     bool is_subscription, is_told; /* a command about subscriptions, and whether a reply to it has come */
     uint32_t queued;               /* the commands of a transaction, or 0 */
     size_t kept;                   /* bytes of the replies to its parts */
@@ -136,6 +136,8 @@ struct node {
     node *next_dirty, *next_left, *next_ear;
     client *client; /* who has it alone, or NULL */
     bool is_dirty, is_failing, is_in_map, is_primary, is_private;
+    bool is_numbered;     /* it has a number in cursors of SCAN */
+    uint32_t scan_number;
     bool is_new; /* what it owes was asked for since the last write */
 };
 

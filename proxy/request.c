@@ -155,6 +155,13 @@ void request_begin_subscription(client *client, const buffer *bytes, size_t len,
         part_begin(it, 0);
 }
 
+void request_begin_scan(client *client, const buffer *bytes, node *to) {
+    request *it = request_new(client, buffer_at(bytes), buffer_len(bytes), 1, NULL);
+    it->is_scan = true;
+    it->one = (part){.end = it->len, .slot = NO_SLOT, .to = to};
+    part_begin(it, 0);
+}
+
 void request_answer_own(client *client, const char *text, size_t len) {
     if (text[0] == '-')
         figure_add(&client->worker->stats.counts[COUNT_OWN_ERRORS], 1);

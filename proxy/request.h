@@ -17,6 +17,9 @@ void request_begin_transaction(client *client, const uint8_t *bytes, size_t len,
  * what asks the node for the end of its replies. The rest goes to all other primaries before. */
 void request_begin_subscription(client *client, const buffer *bytes, size_t len, node *to);
 
+/* Sends SCAN to a node. */
+void request_begin_scan(client *client, const buffer *bytes, node *to);
+
 /* Answers a request with a text of the proxy's own, once the earlier ones are answered. */
 void request_answer_own(client *client, const char *text, size_t len);
 

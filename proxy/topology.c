@@ -2,6 +2,7 @@
 
 #include "node.h"
 #include "peer.h"
+#include "scan.h"
 #include "subscription.h"
 
 #include <stdio.h>
@@ -137,6 +138,8 @@ static bool take_map(worker *worker, node *from, const uint8_t *reply, size_t le
         map->primary_count = map->all_count;
         for (size_t at = 0; at < map->primary_count; at++)
             map->primaries[at]->is_primary = true;
+        for (size_t at = 0; at < map->primary_count; at++)
+            scan_number(map->primaries[at]);
         take_owners(worker, numbers, found, count);
         buffer_drop(&lines, buffer_len(&lines));
         layer_replicas(&text, from->host, &lines);

@@ -49,6 +49,9 @@ client.publish("news", "x")
 assert told.get_message(timeout=5)["data"] == b"x"
 told.close()
 
+assert sorted(client.scan_iter(match="ahead?", count=100, _type="string")) == [b"ahead%d" % at for at in range(10)]
+assert len(set(client.scan_iter())) == 1000
+
 other = redis.Redis(port={port}, db=1)
 try:
     other.flushdb()

@@ -211,7 +211,7 @@ def try_lost():
 
 
 NOT_TAKEN = [
-    "REPLCONF ACK 0", "CLIENT REPLY OFF", "SSUBSCRIBE foo", "PSYNC ? -1", "WAIT 1 0", "SCAN 0", "MONITOR", "foo",
+    "REPLCONF ACK 0", "CLIENT REPLY OFF", "SSUBSCRIBE foo", "PSYNC ? -1", "WAIT 1 0", "MONITOR", "foo",
 ]  # fmt: skip
 
 
