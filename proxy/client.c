@@ -28,6 +28,7 @@ void client_begin(worker *worker, int fd) {
     it->id = atomic_fetch_add(&the_proxy.next_id, 1) + 1;
     it->active_at = worker->now;
     it->is_known = the_proxy.settings.password == NULL;
+    it->multi_slot = NO_SLOT;
     it->next = worker->clients;
     if (it->next != NULL)
         it->next->previous = it;
@@ -112,7 +113,7 @@ static bool may_read(const client *it) {
 
 /* Whether the client waits for as long as a node likes, as with BLPOP. */
 static bool is_blocked(const client *it) {
-    return it->first != NULL && it->first->is_private && !it->first->is_subscription;
+    return it->first != NULL && it->first->is_blocking;
 }
 
 /* Refuses a command, with its name. */
@@ -143,7 +144,6 @@ static bool take(client *it, const uint8_t *bytes, size_t len) {
     command_kind kind = command_of(bytes, len);
     words words = words_of(bytes, len);
     const char *refusal = command_refusal(kind), *refusal_now = refusal_of_state(it, kind);
-    bool is_taken = kind >= COMMAND_TAKEN && kind <= COMMAND_PUBLISH;
     bool has_begun = true;
     if (words.left == 0)
         return true; /* a server does not answer a request of no words either */
@@ -152,16 +152,16 @@ static bool take(client *it, const uint8_t *bytes, size_t len) {
     else if (refusal_now != NULL)
         request_refuse(it, refusal_now);
     else if (kind == COMMAND_TRANSACTION)
-        transaction_command(it, bytes, len);
+        has_begun = transaction_command(it, bytes, len);
     else if (it->is_multi && kind != COMMAND_QUIT && kind != COMMAND_RESET)
-        transaction_queue(it, bytes, len, is_taken);
+        transaction_queue(it, bytes, len, kind);
     else if (refusal != NULL)
         refuse(it, words, refusal);
     else if (kind == COMMAND_SUBSCRIPTION)
         has_begun = subscription_begin(it, bytes, len);
     else if (kind == COMMAND_CURSOR)
         scan_begin(it, bytes, len);
-    else if (is_taken || kind == COMMAND_BLOCKING)
+    else if (command_is_taken(kind) || kind == COMMAND_BLOCKING)
         has_begun = request_begin(it, bytes, len, kind);
     else
         own_answer(it, kind, bytes, len);

@@ -63,6 +63,11 @@ const char *commands_take(const char *name);
 /* What a request is, by its first words. */
 command_kind command_of(const uint8_t *request, size_t len);
 
+/* Whether nodes answer it over a connection that many clients share. */
+static inline bool command_is_taken(command_kind kind) {
+    return kind >= COMMAND_TAKEN && kind <= COMMAND_PUBLISH;
+}
+
 /* Why a command of this kind is refused, or NULL if it is not. */
 const char *command_refusal(command_kind kind);
 

@@ -97,7 +97,7 @@ static void deliver(node *it, const uint8_t *reply, size_t len) {
         check_that(first.request->client_id == first.client_id, "a reply goes to who asked");
         part_reply(first.request, first.part, it, reply, len);
     } else if (first.waits == WAITS_QUEUED) {
-        transaction_queued(first.request, reply, len);
+        transaction_queued(first.request, first.part, reply, len);
     } else if (first.waits == WAITS_MAP) {
         topology_reply(it, first.client_id, reply, len);
     } else if (first.waits == WAITS_PASSWORD && reply[0] == '-') {
@@ -205,6 +205,8 @@ static void lose(node *it) {
     it->is_failing = it->is_failing || !was_open || count > 0;
     it->failed = it->worker->now;
     it->lost = NULL; /* those who waited may ask it anew */
+    if (it->client != NULL)
+        it->client->is_watch_lost = true;
     for (size_t at = 0; at < count; at++) {
         const waiter *lost = &queue[(first + at) % room];
         if (lost->waits == WAITS_PART)

@@ -5,6 +5,7 @@
 #include "node.h"
 #include "request.h"
 #include "topology.h"
+#include "transaction.h"
 
 #include <string.h>
 
@@ -91,6 +92,10 @@ static bool step(client *client, uint16_t slot) {
     place first = first_open(client, slot);
     if (first.request == NULL || part_at(first)->state == PART_SENT)
         return false;
+    if (transaction_is_void(first.request, first.part)) {
+        part_finish(first.request, first.part, (const uint8_t *)"*-1\r\n", 5);
+        return true;
+    }
     const node *lost = out_of_reach(first);
     if (lost != NULL) {
         part_fail_at(first.request, first.part, lost, lost->why, false);

@@ -23,6 +23,8 @@ node *part_node(const request *it, uint32_t at) {
                                        : topology_owner(worker, part->slot);
     if (to == NULL || !it->is_private)
         return to;
+    if (it->is_transaction)
+        return it->client->own;
     return at + 1 < it->parts ? private_ear(it->client, to) : private_node(it->client, to);
 }
 
@@ -41,8 +43,8 @@ void part_send(request *it, uint32_t at) {
     part->state = PART_SENT;
     it->in_flight++;
     figure_add(&worker->stats.counts[COUNT_PARTS], 1);
-    if (it->queued > 0)
-        transaction_ask(to, it);
+    if (it->is_transaction)
+        transaction_ask(to, it, at);
     else
         node_ask(to, it->sent + part->start, part->end - part->start,
                  (waiter){.request = it, .part = at, .client_id = it->client_id, .waits = WAITS_PART});
@@ -145,8 +147,8 @@ void part_reply(request *it, uint32_t at, node *from, const uint8_t *reply, size
         scan_end(it, from, reply, len);
     } else if (reply[0] != '-') {
         part_finish(it, at, reply, len);
-    } else if (it->queued > 0 ? !transaction_follow(it, from, reply, len)
-                              : !redirect_follow(it, at, from, reply, len)) {
+    } else if (it->is_transaction ? !transaction_follow(it, at, from, reply, len)
+                                  : !redirect_follow(it, at, from, reply, len)) {
         figure_add(&from->worker->stats.counts[COUNT_NODE_ERRORS], 1);
         part_finish(it, at, reply, len);
     }

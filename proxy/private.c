@@ -20,6 +20,7 @@ static void drop_own(client *client) {
         return;
     give_up(client->own);
     client->own = NULL;
+    client->is_watch_lost = true;
     client->is_subscribed = false;
 }
 

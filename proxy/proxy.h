@@ -45,6 +45,7 @@ typedef struct part {
     uint64_t since;    /* when a node refused it for the first time, or 0 */
     uint8_t *reply;    /* NULL for a reply in `small` */
     size_t reply_len;
+    uint32_t queued; /* the commands of a transaction */
     uint16_t slot, redirects;
     uint8_t state;
     bool asking;
@@ -59,14 +60,20 @@ struct request {
     uint64_t client_id, start;
     uint32_t parts, left, in_flight; /* all parts, those not done, those sent */
     uint32_t policy;
-    bool is_split, is_script, is_private, is_scan;
+    bool is_split, is_script, is_scan, is_transaction;
+    bool is_private, is_blocking;  /* it goes over the client's own connection; it waits there */
     bool is_subscription, is_told; /* a command about subscriptions, and whether a reply to it has come */
-    uint32_t queued;               /* the commands of a transaction, or 0 */
     size_t kept;                   /* bytes of the replies to its parts */
     size_t len, size;      /* of the request, and of the block that it stands in */
     uint8_t *bytes, *sent; /* the request, and what its parts are pieces of */
     part *part, one;
 };
+
+/* A command after MULTI. */
+typedef struct queued_command {
+    size_t len;
+    uint16_t slot;
+} queued_command;
 
 struct client {
     peer peer;
@@ -96,10 +103,10 @@ struct client {
     node *ears;        /* connections to the other primaries, which tell it of their keys */
     buffer told;       /* requests that subscribe to what is told of keys, each with one name */
     buffer early;      /* messages that come before the replies to a command about subscriptions */
-    bool is_multi, is_multi_bad;
-    buffer multi; /* the commands since MULTI */
-    uint32_t multi_count;
-    uint16_t multi_slot;
+    bool is_multi, is_multi_bad, is_watching;
+    bool is_watch_lost;       /* the connection on which it watches is another one now */
+    buffer multi, multi_list; /* the commands since MULTI, and their lengths and slots */
+    uint16_t multi_slot;      /* the first one of these, or the watched one, or NO_SLOT */
     char name[64];
 };
 

@@ -59,7 +59,7 @@ def try_node_user():
     finally:
         set_password("", "secret")
     print(found)
-    return found[0] == "+OK" and found[3:] == [[b"message", b"news", b"x"], [], [b"2", b"1"]]
+    return found[0] == "+OK" and found[3:] == [[b"message", b"news", b"x"], None, [b"2", b"1"]]
 
 
 def try_settings():

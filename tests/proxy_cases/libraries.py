@@ -52,6 +52,14 @@ told.close()
 assert sorted(client.scan_iter(match="ahead?", count=100, _type="string")) == [b"ahead%d" % at for at in range(10)]
 assert len(set(client.scan_iter())) == 1000
 
+def add(pipe):
+    old = int(pipe.get("{sum}a") or 0)
+    pipe.multi()
+    pipe.set("{sum}a", old + 1)
+    pipe.incr("{sum}b")
+assert client.transaction(add, "{sum}a", "{sum}b") == [True, 1]
+assert client.delete("{sum}a", "{sum}b") == 2
+
 other = redis.Redis(port={port}, db=1)
 try:
     other.flushdb()
@@ -87,6 +95,14 @@ $found = $ahead->exec();
 for ($at = 0; $at < 1000; $at++)
     if ($found[2 * $at] !== true || $found[2 * $at + 1] !== $value)
         exit("ahead $at");
+$client->set('{sum}a', '1');
+$client->watch('{sum}a');
+$found = $client->multi()->incr('{sum}a')->get('{sum}a')->exec();
+if ($found !== [2, '2'])
+    exit('transaction');
+$client->watch('{sum}a');
+$client->close();
+$client->connect('127.0.0.1', {port});
 if ($client->select(1) || $client->flushDB())
     exit('database 1 is there');
 if (!$client->select(0) || $client->dbSize() < 1000)
@@ -113,6 +129,13 @@ const must = (holds, what) => { if (!holds) throw new Error(what); };
     const found = await Promise.all(all);
     must(found.every((it, at) => it === (at % 2 ? value : 'OK')), 'ahead');
     console.log('as wanted');
+    await client.watch('{sum}a');
+    const told = await client.multi().set('{sum}a', '1').ping().incr('{sum}a').exec();
+    must(JSON.stringify(told) === '["OK","PONG",2]', told);
+    const keys = [];
+    for await (const key of client.scanIterator({ MATCH: 'ahead7*', COUNT: 100 }))
+        keys.push(key);
+    must(keys.length === 111, keys);
     await client.quit();
 })().catch(fault => { console.log(fault); process.exit(1); });
 """

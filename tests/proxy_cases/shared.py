@@ -88,7 +88,7 @@ class Client:
         if mark == b"$":
             return None if rest == b"-1" else self.lines.read(int(rest) + 2)[:-2]
         if mark == b"*":
-            return [self.reply() for _ in range(int(rest))]
+            return None if rest == b"-1" else [self.reply() for _ in range(int(rest))]
         return int(rest) if mark == b":" else line.decode()
 
 
