@@ -1,6 +1,7 @@
 #include "client.h"
 
 #include "commands.h"
+#include "inline.h"
 #include "invariants.h"
 #include "node.h"
 #include "peer.h"
@@ -26,7 +27,7 @@ void client_begin(worker *worker, int fd) {
     it->peer = (peer){.kind = PEER_CLIENT, .fd = fd};
     it->worker = worker;
     it->id = atomic_fetch_add(&the_proxy.next_id, 1) + 1;
-    it->active_at = worker->now;
+    it->active_at = it->begun_at = worker->now;
     it->is_known = the_proxy.settings.password == NULL;
     it->multi_slot = NO_SLOT;
     it->next = worker->clients;
@@ -71,6 +72,7 @@ static void client_close(client *it) {
     private_drop(it);
     buffer_free(&it->in);
     buffer_free(&it->out);
+    buffer_free(&it->name);
     close(it->peer.fd);
     it->peer.fd = -1;
     if (it->next != NULL)
@@ -170,13 +172,25 @@ static bool take(client *it, const uint8_t *bytes, size_t len) {
     return has_begun;
 }
 
+/* Takes a request that is a line of text. */
+static whole take_line(client *it, const uint8_t *bytes, size_t len, size_t *end) {
+    buffer request = {0};
+    whole found = inline_read(bytes, len, &request, end);
+    if (found == IS_WHOLE && buffer_len(&request) > 0)
+        take(it, buffer_at(&request), buffer_len(&request));
+    buffer_free(&request);
+    return found;
+}
+
 /* Takes the requests that have come whole, as far as the client may be read. Returns how many bytes they
  * have. */
 static size_t take_requests(client *it, const uint8_t *bytes, size_t len) {
     size_t used = 0, end = 0;
     while (used < len && may_read(it)) {
         size_t most = it->is_known ? the_proxy.settings.max_message : STRANGER; /* AUTH may have changed it */
-        whole found = layer_request(bytes + used, len - used, &it->progress, &end);
+        bool is_line = bytes[used] != '*';
+        whole found = is_line ? take_line(it, bytes + used, len - used, &end)
+                              : layer_request(bytes + used, len - used, &it->progress, &end);
         bool is_long = (found == IS_WHOLE ? end : len - used) > most;
         if (found == IS_MALFORMED || is_long) {
             char text[100];
@@ -186,7 +200,7 @@ static size_t take_requests(client *it, const uint8_t *bytes, size_t len) {
             client_end(it);
             return len;
         }
-        if (found == IS_PIECE || !take(it, bytes + used, end))
+        if (found == IS_PIECE || (!is_line && !take(it, bytes + used, end)))
             break;
         used += end;
     }

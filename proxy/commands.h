@@ -33,6 +33,8 @@ typedef enum command_kind {
     COMMAND_HELLO,
     COMMAND_CLIENT,
     COMMAND_INFO,
+    COMMAND_ROLE,
+    COMMAND_CONFIG,
     COMMAND_RESET,
 } command_kind;
 

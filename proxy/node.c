@@ -2,6 +2,7 @@
 
 #include "client.h"
 #include "invariants.h"
+#include "own.h"
 #include "peer.h"
 #include "private.h"
 #include "request.h"
@@ -100,6 +101,8 @@ static void deliver(node *it, const uint8_t *reply, size_t len) {
         transaction_queued(first.request, first.part, reply, len);
     } else if (first.waits == WAITS_MAP) {
         topology_reply(it, first.client_id, reply, len);
+    } else if (first.waits == WAITS_INFO) {
+        info_reply(it->worker, reply, len);
     } else if (first.waits == WAITS_PASSWORD && reply[0] == '-') {
         char text[100];
         snprintf(text, sizeof text, "AUTH: %.*s", (int)(len - 3), (const char *)reply + 1);

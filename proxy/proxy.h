@@ -107,10 +107,18 @@ struct client {
     bool is_watch_lost;       /* the connection on which it watches is another one now */
     buffer multi, multi_list; /* the commands since MULTI, and their lengths and slots */
     uint16_t multi_slot;      /* the first one of these, or the watched one, or NO_SLOT */
-    char name[64];
+    buffer name;
+    uint64_t begun_at;
 };
 
-typedef enum waits { WAITS_PART, WAITS_QUEUED, WAITS_NOTHING, WAITS_PASSWORD, WAITS_MAP } waits;
+typedef enum waits {
+    WAITS_PART,
+    WAITS_QUEUED,
+    WAITS_NOTHING,
+    WAITS_PASSWORD,
+    WAITS_MAP,
+    WAITS_INFO
+} waits;
 
 /* Who waits for the next reply of a node. WAITS_NOTHING: the reply is dropped. */
 typedef struct waiter {
@@ -161,6 +169,10 @@ typedef struct topology {
     char why[192];                      /* why there is no map */
 } topology;
 
+/* Fields of a node's INFO. */
+typedef enum node_field { NODE_VERSION, NODE_MAXMEMORY, NODE_POLICY, NODE_FIELDS } node_field;
+enum { FIELD_ROOM = 32 };
+
 struct worker {
     unsigned number;
     int poll, given, giver; /* epoll, and a pipe with the clients that the first thread gives */
@@ -175,7 +187,9 @@ struct worker {
     uint64_t drain_until, pressed_at;
     size_t base; /* the memory that the thread takes without clients */
     stats stats;
-    uint8_t *read; /* room for what is read */
+    uint8_t *read;                      /* room for what is read */
+    char fields[NODE_FIELDS][FIELD_ROOM]; /* the last ones that a node told */
+    uint64_t info_at;                   /* when they are asked for again */
 };
 
 /* The whole program. Threads only read what is not atomic. */

@@ -1,6 +1,7 @@
 #include "topology.h"
 
 #include "node.h"
+#include "own.h"
 #include "peer.h"
 #include "scan.h"
 #include "subscription.h"
@@ -173,6 +174,7 @@ static void ask_next(worker *worker) {
     map->asked_at = worker->now;
     map->number++;
     node_ask(chosen, question, sizeof question - 1, (waiter){.waits = WAITS_MAP, .client_id = map->number});
+    info_ask(chosen);
 }
 
 /* The map that was asked for does not come. */

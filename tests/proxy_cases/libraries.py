@@ -60,6 +60,10 @@ def add(pipe):
 assert client.transaction(add, "{sum}a", "{sum}b") == [True, 1]
 assert client.delete("{sum}a", "{sum}b") == 2
 
+assert client.info()["maxmemory_policy"] == client.config_get()["maxmemory-policy"] and client.role()[0] == b"master"
+client.client_setname("me")
+assert [it["name"] for it in client.client_list()].count("me") == 1
+
 other = redis.Redis(port={port}, db=1)
 try:
     other.flushdb()
