@@ -114,9 +114,7 @@ static bool may_read(const client *it) {
 }
 
 /* Whether the client waits for as long as a node likes, as with BLPOP. */
-static bool is_blocked(const client *it) {
-    return it->first != NULL && it->first->is_blocking;
-}
+static bool is_blocked(const client *it) { return it->first != NULL && it->first->is_blocking; }
 
 /* Refuses a command, with its name. */
 static void refuse(client *it, words words, const char *why) {

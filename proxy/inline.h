@@ -1,4 +1,5 @@
-/* Requests that are lines of text, as health checks send them: PING, and what else the proxy answers itself. */
+/* Requests that are lines of text, as health checks send them: PING, and what else the proxy answers itself.
+ */
 #ifndef PROXY_INLINE_H
 #define PROXY_INLINE_H
 

@@ -119,7 +119,8 @@ static void answer_hello(client *client, const line *line) {
                  "*14\r\n$6\r\nserver\r\n$5\r\nredis\r\n$7\r\nversion\r\n$%zu\r\n%s\r\n$5\r\nproto\r\n:2\r\n"
                  "$2\r\nid\r\n:%llu\r\n",
                  strlen(version), version, (unsigned long long)client->id);
-    buffer_text(&out, "$4\r\nmode\r\n$10\r\nstandalone\r\n$4\r\nrole\r\n$6\r\nmaster\r\n$7\r\nmodules\r\n*0\r\n");
+    buffer_text(&out,
+                "$4\r\nmode\r\n$10\r\nstandalone\r\n$4\r\nrole\r\n$6\r\nmaster\r\n$7\r\nmodules\r\n*0\r\n");
     request_answer_own(client, (const char *)buffer_at(&out), buffer_len(&out));
     buffer_free(&out);
 }

@@ -17,7 +17,8 @@ bool own_set_name(client *client, word name) {
 }
 
 /* Writes the address of an end of a client's connection. */
-static void put_address(int fd, const char *name, int (*of)(int, struct sockaddr *, socklen_t *), buffer *out) {
+static void put_address(int fd, const char *name, int (*of)(int, struct sockaddr *, socklen_t *),
+                        buffer *out) {
     struct sockaddr_storage address = {0};
     socklen_t len = sizeof address;
     char host[64], port[8];
@@ -40,10 +41,10 @@ static void put_client(const client *it, buffer *out) {
     buffer_print(out, " age=%llu idle=%llu flags=%s db=0 multi=%d qbuf=%zu omem=%zu user=default resp=2\n",
                  (unsigned long long)((now - it->begun_at) / SECOND),
                  (unsigned long long)((now - it->active_at) / SECOND),
-                 it->is_subscribed          ? "P"
-                 : it->is_multi             ? "x"
-                 : it->first && it->own     ? "b"
-                                            : "N",
+                 it->is_subscribed      ? "P"
+                 : it->is_multi         ? "x"
+                 : it->first && it->own ? "b"
+                                        : "N",
                  it->is_multi ? (int)queued : -1, buffer_len(&it->in), buffer_len(&it->out));
 }
 

@@ -50,7 +50,8 @@ static void put_all(const worker *worker, buffer *out) {
     unsigned long long uptime = (clock_now() - the_proxy.start) / SECOND, used = stats_count(COUNT_MEMORY);
     buffer_print(out, "# Server\r\nredis_version:%s\r\nredis_mode:standalone\r\nproxy:slotroute %s\r\n",
                  info_field(worker, NODE_VERSION), SLOTROUTE_VERSION);
-    buffer_print(out, "process_id:%d\r\nuptime_in_seconds:%llu\r\nuptime_in_days:%llu\r\nthreads:%llu\r\n\r\n",
+    buffer_print(out,
+                 "process_id:%d\r\nuptime_in_seconds:%llu\r\nuptime_in_days:%llu\r\nthreads:%llu\r\n\r\n",
                  (int)getpid(), uptime, uptime / 86400, (unsigned long long)set->threads);
     buffer_print(out, "# Clients\r\nconnected_clients:%llu\r\nmaxclients:%llu\r\n\r\n",
                  (unsigned long long)stats_count(COUNT_CLIENTS_NOW), (unsigned long long)set->max_clients);
@@ -95,8 +96,8 @@ enum { PARAMETERS = 6 };
 
 /* The parameters that the proxy knows, with their values. */
 static void put_parameters(const worker *worker, char (*names)[FIELD_ROOM], char (*values)[FIELD_ROOM]) {
-    static const char *const all[PARAMETERS] = {"databases", "timeout", "maxclients", "proto-max-bulk-len",
-                                                "maxmemory", "maxmemory-policy"};
+    static const char *const all[PARAMETERS] = {"databases",          "timeout",   "maxclients",
+                                                "proto-max-bulk-len", "maxmemory", "maxmemory-policy"};
     const settings *set = &the_proxy.settings;
     for (size_t at = 0; at < PARAMETERS; at++)
         snprintf(names[at], FIELD_ROOM, "%s", all[at]);

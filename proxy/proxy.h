@@ -64,8 +64,8 @@ struct request {
     bool is_private, is_blocking;  /* it goes over the client's own connection; it waits there */
     bool is_subscription, is_told; /* a command about subscriptions, and whether a reply to it has come */
     size_t kept;                   /* bytes of the replies to its parts */
-    size_t len, size;      /* of the request, and of the block that it stands in */
-    uint8_t *bytes, *sent; /* the request, and what its parts are pieces of */
+    size_t len, size;              /* of the request, and of the block that it stands in */
+    uint8_t *bytes, *sent;         /* the request, and what its parts are pieces of */
     part *part, one;
 };
 
@@ -111,14 +111,7 @@ struct client {
     uint64_t begun_at;
 };
 
-typedef enum waits {
-    WAITS_PART,
-    WAITS_QUEUED,
-    WAITS_NOTHING,
-    WAITS_PASSWORD,
-    WAITS_MAP,
-    WAITS_INFO
-} waits;
+typedef enum waits { WAITS_PART, WAITS_QUEUED, WAITS_NOTHING, WAITS_PASSWORD, WAITS_MAP, WAITS_INFO } waits;
 
 /* Who waits for the next reply of a node. WAITS_NOTHING: the reply is dropped. */
 typedef struct waiter {
@@ -151,7 +144,7 @@ struct node {
     node *next_dirty, *next_left, *next_ear;
     client *client; /* who has it alone, or NULL */
     bool is_dirty, is_failing, is_in_map, is_primary, is_private;
-    bool is_numbered;     /* it has a number in cursors of SCAN */
+    bool is_numbered; /* it has a number in cursors of SCAN */
     uint32_t scan_number;
     bool is_new; /* what it owes was asked for since the last write */
 };
@@ -187,9 +180,9 @@ struct worker {
     uint64_t drain_until, pressed_at;
     size_t base; /* the memory that the thread takes without clients */
     stats stats;
-    uint8_t *read;                      /* room for what is read */
+    uint8_t *read;                        /* room for what is read */
     char fields[NODE_FIELDS][FIELD_ROOM]; /* the last ones that a node told */
-    uint64_t info_at;                   /* when they are asked for again */
+    uint64_t info_at;                     /* when they are asked for again */
 };
 
 /* The whole program. Threads only read what is not atomic. */

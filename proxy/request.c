@@ -63,7 +63,8 @@ static void begin_one(client *client, const uint8_t *bytes, size_t len, uint16_t
     part_begin(it, 0);
 }
 
-void request_begin_private(client *client, const uint8_t *bytes, size_t len, uint16_t slot, bool is_blocking) {
+void request_begin_private(client *client, const uint8_t *bytes, size_t len, uint16_t slot,
+                           bool is_blocking) {
     request *it = request_new(client, bytes, len, 1, NULL);
     it->is_private = client->is_alone = true;
     it->is_blocking = is_blocking;

@@ -1,4 +1,5 @@
-/* SCAN over all primaries, one after the other. A cursor holds the number of a primary and its cursor there. */
+/* SCAN over all primaries, one after the other. A cursor holds the number of a primary and its cursor there.
+ */
 #ifndef PROXY_SCAN_H
 #define PROXY_SCAN_H
 

@@ -55,9 +55,7 @@ static uint64_t sum_of(size_t offset) {
     return sum;
 }
 
-uint64_t stats_count(counter counter) {
-    return sum_of(offsetof(stats, counts) + counter * sizeof(uint64_t));
-}
+uint64_t stats_count(counter counter) { return sum_of(offsetof(stats, counts) + counter * sizeof(uint64_t)); }
 
 static uint64_t took_of(size_t step) { return sum_of(offsetof(stats, took) + step * sizeof(uint64_t)); }
 

@@ -53,8 +53,8 @@ static void forget(buffer *told, const char *name, const word *channel) {
         words_next(&words, &first);
         words_next(&words, &second);
         size_t len = (size_t)(words.at - (const char *)buffer_at(told));
-        bool is_it = channel == NULL || (second.len == channel->len &&
-                                         memcmp(second.text, channel->text, channel->len) == 0);
+        bool is_it = channel == NULL ||
+                     (second.len == channel->len && memcmp(second.text, channel->text, channel->len) == 0);
         if (!word_is(first, name) || !is_it)
             buffer_put(&left, buffer_at(told), len);
         buffer_drop(told, len);
@@ -208,8 +208,7 @@ void subscription_message(node *own, const uint8_t *message, size_t len) {
 void subscription_end(request *request, uint32_t part, const uint8_t *reply, size_t len) {
     client *client = request->client;
     if (part + 1 == request->parts) {
-        client->is_subscribed =
-            !begins(reply + sizeof end_reply - 1, len - sizeof end_reply + 1, ":0\r\n");
+        client->is_subscribed = !begins(reply + sizeof end_reply - 1, len - sizeof end_reply + 1, ":0\r\n");
         buffer_put(&client->out, buffer_at(&client->early), buffer_len(&client->early));
         buffer_free(&client->early);
         if (buffer_len(&client->told) == 0)

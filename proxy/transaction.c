@@ -48,8 +48,8 @@ static bool watch(client *client, const uint8_t *bytes, size_t len) {
     bool has_route = layer_route(bytes, len, &to);
     if (client->is_multi) {
         request_refuse(client, "WATCH inside MULTI is not allowed");
-    } else if (has_route && (to.kind == SLOTROUTE_TO_SLOTS ||
-                             (client->is_watching && to.slot != client->multi_slot))) {
+    } else if (has_route &&
+               (to.kind == SLOTROUTE_TO_SLOTS || (client->is_watching && to.slot != client->multi_slot))) {
         answer(client, "-CROSSSLOT the proxy watches keys of one slot\r\n");
     } else if (!has_route || to.kind != SLOTROUTE_TO_SLOT) {
         request_refuse(client, "wrong number of arguments for 'watch' command");
@@ -111,8 +111,9 @@ static const char *fault_of(const client *client, uint16_t slot, size_t len) {
         return "CROSSSLOT a transaction after WATCH has keys of the watched slot alone";
     if (is_other && !the_proxy.settings.split_transactions)
         return "CROSSSLOT the commands of a transaction have keys in several slots";
-    return buffer_len(&client->multi) + len > the_proxy.settings.max_message ? "ERR the transaction is too long"
-                                                                             : NULL;
+    return buffer_len(&client->multi) + len > the_proxy.settings.max_message
+               ? "ERR the transaction is too long"
+               : NULL;
 }
 
 void transaction_queue(client *client, const uint8_t *bytes, size_t len, command_kind kind) {

@@ -10,7 +10,8 @@
 #include "commands.h"
 #include "proxy.h"
 
-/* MULTI, EXEC, DISCARD, WATCH or UNWATCH. False if the client's earlier requests have to be answered first. */
+/* MULTI, EXEC, DISCARD, WATCH or UNWATCH. False if the client's earlier requests have to be answered first.
+ */
 bool transaction_command(client *client, const uint8_t *bytes, size_t len);
 
 /* A command after MULTI. */
