@@ -134,7 +134,10 @@ static const char *refusal_of_state(const client *it, command_kind kind) {
     if (it->is_elsewhere && kind != COMMAND_AUTH && kind != COMMAND_SELECT)
         return "SELECT was refused, so this command is for another database: until SELECT 0, the proxy takes "
                "AUTH, QUIT and RESET alone";
-    if (it->is_subscribed && kind != COMMAND_SUBSCRIPTION && kind != COMMAND_PING)
+    if (it->is_subscribed && it->is_three &&
+        (kind == COMMAND_BLOCKING || kind == COMMAND_TRANSACTION || kind == COMMAND_HELLO))
+        return "the proxy does not take this from a subscriber: it would go over the same connection";
+    if (it->is_subscribed && !it->is_three && kind != COMMAND_SUBSCRIPTION && kind != COMMAND_PING)
         return "only (P)SUBSCRIBE, (P)UNSUBSCRIBE, PING, QUIT and RESET are allowed in this context";
     return NULL;
 }

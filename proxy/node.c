@@ -42,6 +42,15 @@ node *node_at(worker *worker, const char *host, uint16_t port) {
     return it;
 }
 
+node *node_three(node *it) {
+    if (it->three == NULL) {
+        it->three = node_new(it->worker, it->host, it->port);
+        it->three->is_private = false;
+        it->three->is_three = true;
+    }
+    return it->three;
+}
+
 void node_touch(node *it) {
     if (it->is_dirty)
         return;
@@ -136,7 +145,7 @@ static size_t take_replies(node *it, const uint8_t *bytes, size_t len) {
             used += end;
             continue;
         }
-        if (it->count == 0 || !was_written(it)) {
+        if (it->count == 0 || !was_written(it) || (bytes[used] == '>' && !it->is_private)) {
             figure_add(&it->worker->stats.counts[COUNT_STRAY], 1);
             warn("node %s:%u: a reply that nobody waits for", it->host, it->port);
             node_doom(it, "a reply that nobody waits for");
@@ -244,6 +253,8 @@ void node_settle(node *it) {
 }
 
 void node_tick(node *it) {
+    if (it->three != NULL)
+        node_tick(it->three);
     uint64_t limit = the_proxy.settings.timeout * MILLISECOND;
     bool owes = it->state == NODE_OPENING || it->state == NODE_LOGIN ||
                 (it->state == NODE_OPEN && it->count > 0 && !it->is_new);
@@ -262,6 +273,8 @@ void node_tick(node *it) {
 }
 
 void node_end(node *it) {
+    if (it->three != NULL)
+        node_end(it->three);
     if (it->peer.fd >= 0)
         close(it->peer.fd);
     for (size_t at = 0; at < it->count; at++) { /* what waits is of clients that have gone */

@@ -3,6 +3,7 @@
 #include "client.h"
 #include "invariants.h"
 #include "node.h"
+#include "own.h"
 #include "request.h"
 #include "topology.h"
 #include "transaction.h"
@@ -93,7 +94,8 @@ static bool step(client *client, uint16_t slot) {
     if (first.request == NULL || part_at(first)->state == PART_SENT)
         return false;
     if (transaction_is_void(first.request, first.part)) {
-        part_finish(first.request, first.part, (const uint8_t *)"*-1\r\n", 5);
+        const char *nil = own_nil(first.request->is_three);
+        part_finish(first.request, first.part, (const uint8_t *)nil, strlen(nil));
         return true;
     }
     const node *lost = out_of_reach(first);

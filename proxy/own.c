@@ -100,8 +100,9 @@ static bool read_hello(client *client, const line *line) {
 
 static void answer_hello(client *client, const line *line) {
     buffer out = {0};
-    if (line->count > 1 && !word_is(line->words[1], "2")) {
-        own_text(client, "-NOPROTO unsupported protocol version: the proxy has RESP2 only\r\n");
+    bool is_three = line->count > 1 ? word_is(line->words[1], "3") : client->is_three;
+    if (line->count > 1 && !is_three && !word_is(line->words[1], "2")) {
+        own_text(client, "-NOPROTO unsupported protocol version\r\n");
         return;
     }
     if (!read_hello(client, line))
@@ -114,11 +115,14 @@ static void answer_hello(client *client, const line *line) {
             "version at the same time\r\n");
         return;
     }
+    if (is_three != client->is_three)
+        private_drop(client);
+    client->is_three = is_three;
     const char *version = info_field(client->worker, NODE_VERSION);
     buffer_print(&out,
-                 "*14\r\n$6\r\nserver\r\n$5\r\nredis\r\n$7\r\nversion\r\n$%zu\r\n%s\r\n$5\r\nproto\r\n:2\r\n"
+                 "%s\r\n$6\r\nserver\r\n$5\r\nredis\r\n$7\r\nversion\r\n$%zu\r\n%s\r\n$5\r\nproto\r\n:%d\r\n"
                  "$2\r\nid\r\n:%llu\r\n",
-                 strlen(version), version, (unsigned long long)client->id);
+                 is_three ? "%7" : "*14", strlen(version), version, is_three ? 3 : 2, (unsigned long long)client->id);
     buffer_text(&out,
                 "$4\r\nmode\r\n$10\r\nstandalone\r\n$4\r\nrole\r\n$6\r\nmaster\r\n$7\r\nmodules\r\n*0\r\n");
     request_answer_own(client, (const char *)buffer_at(&out), buffer_len(&out));
@@ -141,14 +145,14 @@ static void answer_reset(client *client) {
     transaction_drop(client);
     private_drop(client);
     client->is_known = the_proxy.settings.password == NULL;
-    client->is_elsewhere = false;
+    client->is_elsewhere = client->is_three = false;
     buffer_free(&client->name);
     own_text(client, "+RESET\r\n");
 }
 
 void own_answer(client *client, unsigned kind, const uint8_t *request, size_t len) {
     line line = line_of(request, len);
-    if (kind == COMMAND_PING && line.count <= 2 && client->is_subscribed)
+    if (kind == COMMAND_PING && line.count <= 2 && client->is_subscribed && !client->is_three)
         answer_pong(client, line.count == 2 ? line.words[1] : (word){"", 0});
     else if (kind == COMMAND_PING && line.count == 1)
         own_text(client, "+PONG\r\n");

@@ -17,6 +17,9 @@ void own_text(client *client, const char *text);
 void own_bulk(client *client, const char *text, size_t len);
 void own_wrong_count(client *client, word name);
 
+/* A list that is nil, in version 3 or 2. */
+static inline const char *own_nil(bool is_three) { return is_three ? "_\r\n" : "*-1\r\n"; }
+
 /* CLIENT, and the name that a client gives itself. */
 void own_client(client *client, const line *line);
 bool own_set_name(client *client, word name);

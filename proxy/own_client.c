@@ -38,14 +38,14 @@ static void put_client(const client *it, buffer *out) {
     put_address(it->peer.fd, "laddr", getsockname, out);
     buffer_print(out, " fd=%d name=", it->peer.fd);
     buffer_put(out, buffer_at(&it->name), buffer_len(&it->name));
-    buffer_print(out, " age=%llu idle=%llu flags=%s db=0 multi=%d qbuf=%zu omem=%zu user=default resp=2\n",
+    buffer_print(out, " age=%llu idle=%llu flags=%s db=0 multi=%d qbuf=%zu omem=%zu user=default resp=%d\n",
                  (unsigned long long)((now - it->begun_at) / SECOND),
                  (unsigned long long)((now - it->active_at) / SECOND),
                  it->is_subscribed      ? "P"
                  : it->is_multi         ? "x"
                  : it->first && it->own ? "b"
                                         : "N",
-                 it->is_multi ? (int)queued : -1, buffer_len(&it->in), buffer_len(&it->out));
+                 it->is_multi ? (int)queued : -1, buffer_len(&it->in), buffer_len(&it->out), it->is_three ? 3 : 2);
 }
 
 static void answer_list(client *client, bool are_subscribed, bool are_others) {

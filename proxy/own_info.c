@@ -130,7 +130,7 @@ void own_config(client *client, const line *line) {
             count++;
         }
     }
-    buffer_print(&out, "*%zu\r\n", 2 * count);
+    buffer_print(&out, client->is_three ? "%%%zu\r\n" : "*%zu\r\n", client->is_three ? count : 2 * count);
     buffer_put(&out, buffer_at(&found), buffer_len(&found));
     request_answer_own(client, (const char *)buffer_at(&out), buffer_len(&out));
     buffer_free(&found);

@@ -21,6 +21,9 @@ node *part_node(const request *it, uint32_t at) {
     node *to = part->to != NULL        ? part->to
                : part->slot == NO_SLOT ? topology_any(worker)
                                        : topology_owner(worker, part->slot);
+    bool is_combined = it->policy != 0 || (it->parts > 1 && !it->is_transaction); /* replies have version 2 */
+    if (to != NULL && !it->is_private && it->is_three && !is_combined)
+        return node_three(to);
     if (to == NULL || !it->is_private)
         return to;
     if (it->is_transaction)
@@ -144,7 +147,7 @@ void part_reply(request *it, uint32_t at, node *from, const uint8_t *reply, size
     } else if (it->is_subscription) {
         subscription_end(it, at, reply, len);
     } else if (it->is_scan && reply[0] == '*') {
-        scan_end(it, from, reply, len);
+        scan_end(it, reply, len);
     } else if (reply[0] != '-') {
         part_finish(it, at, reply, len);
     } else if (it->is_transaction ? !transaction_follow(it, at, from, reply, len)

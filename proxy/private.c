@@ -29,6 +29,7 @@ node *private_node(client *client, const node *like) {
         return client->own;
     drop_own(client);
     client->own = node_new(client->worker, like->host, like->port);
+    client->own->is_three = client->is_three;
     client->own->client = client;
     return client->own;
 }
@@ -39,6 +40,7 @@ node *private_ear(client *client, const node *like) {
             return it;
     node *it = node_new(client->worker, like->host, like->port);
     it->client = client;
+    it->is_three = client->is_three;
     it->next_ear = client->ears;
     client->ears = it;
     node_send(it, buffer_at(&client->told), buffer_len(&client->told));

@@ -60,6 +60,7 @@ struct request {
     uint64_t client_id, start;
     uint32_t parts, left, in_flight; /* all parts, those not done, those sent */
     uint32_t policy;
+    bool is_three; /* its client wants replies of version 3 of the protocol (RESP3) */
     bool is_split, is_script, is_scan, is_transaction;
     bool is_private, is_blocking;  /* it goes over the client's own connection; it waits there */
     bool is_subscription, is_told; /* a command about subscriptions, and whether a reply to it has come */
@@ -97,7 +98,7 @@ struct client {
     bool has_ended;                       /* it will send nothing more */
     bool is_shut;                         /* all was written, and it was told so */
     bool is_paused;                       /* it waits because of the memory of all */
-    bool is_subscribed;
+    bool is_subscribed, is_three;
     bool is_elsewhere; /* it selected another database than 0, and was refused */
     node *own;         /* a connection that it has alone, or NULL */
     node *ears;        /* connections to the other primaries, which tell it of their keys */
@@ -143,7 +144,8 @@ struct node {
     char why[128];
     node *next_dirty, *next_left, *next_ear;
     client *client; /* who has it alone, or NULL */
-    bool is_dirty, is_failing, is_in_map, is_primary, is_private;
+    node *three;    /* a connection of version 3 to the same node, or NULL */
+    bool is_dirty, is_failing, is_in_map, is_primary, is_private, is_three;
     bool is_numbered; /* it has a number in cursors of SCAN */
     uint32_t scan_number;
     bool is_new; /* what it owes was asked for since the last write */

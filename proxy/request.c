@@ -18,6 +18,7 @@ static request *request_new(client *client, const uint8_t *bytes, size_t len, ui
     it->size = size;
     it->client = client;
     it->client_id = client->id;
+    it->is_three = client->is_three;
     it->start = client->worker->now;
     it->len = len;
     it->part = parts > 1 ? (part *)(void *)(it + 1) : &it->one;

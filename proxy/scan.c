@@ -87,13 +87,13 @@ void scan_begin(client *client, const uint8_t *bytes, size_t len) {
     buffer_free(&out);
 }
 
-void scan_end(request *request, const node *from, const uint8_t *reply, size_t len) {
+void scan_end(request *request, const uint8_t *reply, size_t len) {
     words words = words_of(reply, len);
     uint64_t cursor = 0;
     word text;
     buffer out = {0};
     if (words.left != 2 || !words_next(&words, &text) || !read_cursor(text, &cursor) ||
-        !layer_next_cursor(from->scan_number, cursor, count, &cursor)) {
+        !layer_next_cursor(request->one.to->scan_number, cursor, count, &cursor)) {
         part_fail(request, 0, "ERR the node's reply to SCAN has no cursor below 2^48");
         return;
     }

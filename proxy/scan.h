@@ -13,6 +13,6 @@ void scan_number(node *primary);
 void scan_begin(client *client, const uint8_t *bytes, size_t len);
 
 /* A reply of a node: the client gets it with a cursor of the proxy. */
-void scan_end(request *request, const node *from, const uint8_t *reply, size_t len);
+void scan_end(request *request, const uint8_t *reply, size_t len);
 
 #endif

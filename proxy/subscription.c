@@ -17,7 +17,8 @@ enum { MOST_TOLD = 65536 }; /* bytes of what a client is told of keys, at most *
 /* Asks for the end of replies. No client can have this channel, since its name begins as `keys`. A node takes
  * the command whenever it takes SUBSCRIBE. */
 static const char end_question[] = "*2\r\n$11\r\nUNSUBSCRIBE\r\n$13\r\n__key:the-end\r\n";
-static const char end_reply[] = "*3\r\n$11\r\nunsubscribe\r\n$13\r\n__key:the-end\r\n";
+/* After its mark, which is `*`, or `>` in version 3. */
+static const char end_reply[] = "3\r\n$11\r\nunsubscribe\r\n$13\r\n__key:the-end\r\n";
 
 static bool begins(const uint8_t *reply, size_t len, const char *text) {
     return len >= strlen(text) && memcmp(reply, text, strlen(text)) == 0;
@@ -111,13 +112,14 @@ void subscription_follow(client *client) {
 
 /* Says that the client has none of the channels, or no channel. This is what a node would say. */
 static void answer_none(client *client, word name, words channels) {
-    const char *kind = name.len == 11 ? "$11\r\nunsubscribe" : "$12\r\npunsubscribe";
+    const char *kind = name.len == 11 ? "3\r\n$11\r\nunsubscribe" : "3\r\n$12\r\npunsubscribe";
+    char mark = client->is_three ? '>' : '*';
     buffer out = {0};
     word channel;
     if (channels.left == 0)
-        buffer_print(&out, "*3\r\n%s\r\n$-1\r\n:0\r\n", kind);
+        buffer_print(&out, "%c%s\r\n%s\r\n:0\r\n", mark, kind, client->is_three ? "_" : "$-1");
     while (words_next(&channels, &channel)) {
-        buffer_print(&out, "*3\r\n%s\r\n$%zu\r\n", kind, channel.len);
+        buffer_print(&out, "%c%s\r\n$%zu\r\n", mark, kind, channel.len);
         buffer_put(&out, channel.text, channel.len);
         buffer_text(&out, "\r\n:0\r\n");
     }
@@ -164,15 +166,15 @@ bool subscription_has(const node *own, const uint8_t *reply, size_t len) {
         return is_ear || own->client->is_subscribed;
     const waiter *first = &own->queue[own->first];
     if (is_ear)
-        return first->waits == WAITS_PART && !begins(reply, len, end_reply);
+        return first->waits == WAITS_PART && !begins(reply + 1, len - 1, end_reply);
     bool is_asked = own->client->is_subscribed || own->sent > first->offset;
     return is_asked && first->waits == WAITS_PART && first->request->is_subscription &&
-           !begins(reply, len, end_reply);
+           !begins(reply + 1, len - 1, end_reply);
 }
 
 static bool is_published(const uint8_t *message, size_t len) {
-    return begins(message, len, "*3\r\n$7\r\nmessage\r\n") ||
-           begins(message, len, "*4\r\n$8\r\npmessage\r\n");
+    return begins(message + 1, len - 1, "3\r\n$7\r\nmessage\r\n") ||
+           begins(message + 1, len - 1, "4\r\n$8\r\npmessage\r\n");
 }
 
 /* Takes what another primary says: messages alone. They wait for the replies to a command. */
@@ -208,7 +210,7 @@ void subscription_message(node *own, const uint8_t *message, size_t len) {
 void subscription_end(request *request, uint32_t part, const uint8_t *reply, size_t len) {
     client *client = request->client;
     if (part + 1 == request->parts) {
-        client->is_subscribed = !begins(reply + sizeof end_reply - 1, len - sizeof end_reply + 1, ":0\r\n");
+        client->is_subscribed = !begins(reply + sizeof end_reply, len - sizeof end_reply, ":0\r\n");
         buffer_put(&client->out, buffer_at(&client->early), buffer_len(&client->early));
         buffer_free(&client->early);
         if (buffer_len(&client->told) == 0)

@@ -93,8 +93,9 @@ static void add_all(topology *map, node **nodes, size_t count) {
 static void change_owner(worker *worker, uint16_t slot) {
     node *old = topology_owner(worker, slot);
     topology_slows(worker, slot);
-    if (old != NULL && (old->state == NODE_OPENING || old->state == NODE_LOGIN))
-        node_doom(old, "another node has its slots");
+    for (; old != NULL; old = old->three)
+        if (old->state == NODE_OPENING || old->state == NODE_LOGIN)
+            node_doom(old, "another node has its slots");
 }
 
 /* Takes the owners of slots. */

@@ -3,11 +3,12 @@
 #include "client.h"
 #include "node.h"
 #include "order.h"
+#include "own.h"
 #include "request.h"
 
 #include <string.h>
 
-static const char unwatch[] = "*1\r\n$7\r\nUNWATCH\r\n", nil[] = "*-1\r\n";
+static const char unwatch[] = "*1\r\n$7\r\nUNWATCH\r\n";
 
 static void answer(client *client, const char *text) { request_answer_own(client, text, strlen(text)); }
 
@@ -31,7 +32,7 @@ static bool execute(client *client) {
     if (client->is_multi_bad || (client->is_watching && client->is_watch_lost)) {
         answer(client, client->is_multi_bad
                            ? "-EXECABORT Transaction discarded because of previous errors.\r\n"
-                           : nil);
+                           : own_nil(client->is_three));
         discard(client);
         return true;
     }

@@ -17,7 +17,7 @@ def try_own():
     client = Client()
     found = [
         client.ask("PING"), client.ask("PING", "x"), client.ask("ECHO", "hello"), client.ask("SELECT", "0"),
-        client.ask("SELECT")[:4], client.ask("HELLO", "3")[:8], client.ask("HELLO", "2")[4:6],
+        client.ask("SELECT")[:4], client.ask("HELLO", "4")[:8], client.ask("HELLO", "2")[4:6],
         client.ask("CLIENT", "SETNAME", "me"), client.ask("CLIENT", "GETNAME"), b"maps:" in client.ask("INFO"),
         len(client.ask("COMMAND")) > 100, client.ask("AUTH", "x")[:4], client.ask("QUIT"),
     ]  # fmt: skip
