@@ -321,6 +321,7 @@ static const char *const templates[] = {
     "*3\r\n$10\r\nPSUBSCRIBE\r\n$5\r\n__key\r\n$1\r\nc\r\n",
     "*3\r\n$6\r\nCLIENT\r\n$7\r\nSETNAME\r\n$1\r\nn\r\n",
     "*2\r\n$5\r\nHELLO\r\n$1\r\n2\r\n",
+    "*2\r\n$5\r\nHELLO\r\n$1\r\n3\r\n",
     "*1\r\n$4\r\nQUIT\r\n",
 };
 
