@@ -154,6 +154,8 @@ static bool take(client *it, const uint8_t *bytes, size_t len) {
         request_answer_own(it, "-NOAUTH Authentication required.\r\n", 34);
     else if (refusal_now != NULL)
         request_refuse(it, refusal_now);
+    else if ((kind == COMMAND_HELLO || kind == COMMAND_RESET) && it->first != NULL)
+        has_begun = false; /* what follows may go over other connections */
     else if (kind == COMMAND_TRANSACTION)
         has_begun = transaction_command(it, bytes, len);
     else if (it->is_multi && kind != COMMAND_QUIT && kind != COMMAND_RESET)

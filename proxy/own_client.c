@@ -45,21 +45,18 @@ static void put_client(const client *it, buffer *out) {
                  : it->is_multi         ? "x"
                  : it->first && it->own ? "b"
                                         : "N",
-                 it->is_multi ? (int)queued : -1, buffer_len(&it->in), buffer_len(&it->out), it->is_three ? 3 : 2);
+                 it->is_multi ? (int)queued : -1, buffer_len(&it->in), buffer_len(&it->out),
+                 it->is_three ? 3 : 2);
 }
 
+/* Answers with these clients of the thread, or with one. */
 static void answer_list(client *client, bool are_subscribed, bool are_others) {
     buffer out = {0};
     for (const struct client *it = client->worker->clients; it != NULL; it = it->next)
         if (it->is_subscribed ? are_subscribed : are_others)
             put_client(it, &out);
-    own_bulk(client, (const char *)buffer_at(&out), buffer_len(&out));
-    buffer_free(&out);
-}
-
-static void answer_info(client *client) {
-    buffer out = {0};
-    put_client(client, &out);
+    if (!are_subscribed && !are_others)
+        put_client(client, &out);
     own_bulk(client, (const char *)buffer_at(&out), buffer_len(&out));
     buffer_free(&out);
 }
@@ -82,7 +79,9 @@ static bool is_switch(word it) { return word_is(it, "ON") || word_is(it, "OFF");
 void own_client(client *client, const line *line) {
     const word *words = line->words;
     word second = line->count > 1 ? words[1] : (word){"", 0};
-    bool is_type = line->count == 4 && word_is(second, "LIST") && word_is(words[2], "TYPE");
+    bool has_type = line->count == 4 && word_is(words[2], "TYPE");
+    bool is_normal = has_type && word_is(words[3], "NORMAL"),
+         is_pubsub = has_type && word_is(words[3], "PUBSUB");
     if (word_is(second, "SETNAME") && line->count == 3)
         answer_name(client, words[2]);
     else if (word_is(second, "GETNAME") && line->count == 2)
@@ -95,9 +94,9 @@ void own_client(client *client, const line *line) {
     else if (word_is(second, "ID") && line->count == 2)
         answer_id(client);
     else if (word_is(second, "INFO") && line->count == 2)
-        answer_info(client);
-    else if (word_is(second, "LIST") && (line->count == 2 || is_type))
-        answer_list(client, !is_type || word_is(words[3], "PUBSUB"), !is_type || word_is(words[3], "NORMAL"));
+        answer_list(client, false, false);
+    else if (word_is(second, "LIST") && (line->count == 2 || is_normal || is_pubsub))
+        answer_list(client, !is_normal, !is_pubsub);
     else
         request_refuse(client, "the proxy does not take this: of CLIENT it takes GETNAME, ID, INFO, LIST, "
                                "NO-EVICT, NO-TOUCH, SETINFO and SETNAME, and no caching by clients");

@@ -21,11 +21,8 @@ node *part_node(const request *it, uint32_t at) {
     node *to = part->to != NULL        ? part->to
                : part->slot == NO_SLOT ? topology_any(worker)
                                        : topology_owner(worker, part->slot);
-    bool is_combined = it->policy != 0 || (it->parts > 1 && !it->is_transaction); /* replies have version 2 */
-    if (to != NULL && !it->is_private && it->is_three && !is_combined)
-        return node_three(to);
     if (to == NULL || !it->is_private)
-        return to;
+        return to != NULL && it->is_three ? node_three(to) : to;
     if (it->is_transaction)
         return it->client->own;
     return at + 1 < it->parts ? private_ear(it->client, to) : private_node(it->client, to);

@@ -39,11 +39,14 @@ def try_three_combined():
     found = [client.ask(*it.split()) for it in ("MGET foo none bar", "DEL foo none", "DBSIZE", "KEYS *", "RANDOMKEY", "SCAN 0 COUNT 1000", "CONFIG GET databases", "CLIENT TRACKING on")]
     found += [client.ask("FLUSHALL"), client.ask("RANDOMKEY"), b" resp=3" in client.ask("CLIENT", "INFO"), client.ask("HELLO", "4")[:8]]
     back = [client.ask("HELLO", "2")[5], client.ask("MGET", "a", "b"), client.ask("BLPOP", "none", "0.1"), client.ask("HELLO", "3")[b"proto"], client.ask("RESET"), client.ask("HELLO")[5]]
+    rounds = [[["HELLO", str(2 + it % 2)], ["SET", "foo", str(it)], ["MGET", "bar", "foo"], ["MSET", "foo", "x", "bar", "y"], ["GET", "foo"]] for it in range(200)]
+    order = client.ask_all(words for it in rounds for words in it)
     mixed = client.ask_all([["HELLO", "2"], ["HGETALL", "none"], ["HELLO", "3"], ["HGETALL", "none"], ["GET", "none"]])
     run = subprocess.run(["redis-cli", "-3", "-p", str(PROXY), "mget", "none", "foo"], capture_output=True, text=True, timeout=20)
-    print(found, back, mixed, run.stdout)
+    print(found, back, mixed, run.stdout, order[5:10])
+    is_in_order = all(order[5 * it + 2] == [b"y" if it else None, b"%d" % it] and order[5 * it + 4] == b"x" for it in range(200))
     is_right = found[:5] == [[b"1", None, b"$-1\r\n*-1\r\n"], 1, 1, [b"bar"], b"bar"] and found[6] == {b"databases": b"1"} and found[7].startswith("-ERR the proxy does not")
-    return is_right and found[8:] == ["+OK", None, True, "-NOPROTO"] and back == [2, [None, None], None, 3, "+RESET", 2] and mixed[1] == [] and mixed[3:] == [{}, None]
+    return is_right and is_in_order and found[8:] == ["+OK", None, True, "-NOPROTO"] and back == [2, [None, None], None, 3, "+RESET", 2] and mixed[1] == [] and mixed[3:] == [{}, None]
 
 
 def try_three_subscriber():
@@ -70,7 +73,7 @@ def try_three_password():
     try:
         with proxy(OTHER, PORT, "--password", "secret"):
             client, _ = hello(OTHER)
-            found = [client.ask("SET", "foo", "1"), client.ask("HGETALL", "none"), client.ask("BLPOP", "none", "0.1"), client.ask("MGET", "foo", "bar")]
+            found = [client.ask("SET", "foo", "1"), client.ask("HGETALL", "none"), client.ask("BLPOP", "none", "0.1"), client.ask("MGET", "foo", "none")]
     finally:
         set_password("", "secret")
     print(found)
