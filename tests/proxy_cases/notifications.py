@@ -43,12 +43,13 @@ def try_keys_told():
 
 
 def replica_of(port):
-    """The port of a primary's replica."""
-    return next(replica[1] for _, _, primary, replica, *_ in Client(PORT).ask("CLUSTER", "SLOTS") if primary[1] == port)
+    """The port of a primary's replica, or None if the map has none."""
+    return next((it[3][1] for it in Client(PORT).ask("CLUSTER", "SLOTS") if it[2][1] == port and len(it) > 3), None)
 
 
 def fail_over(port):
     """Has a replica take the place of a primary."""
+    until(60, lambda: replica_of(port))
     new = replica_of(port)
     assert Client(new).ask("CLUSTER", "FAILOVER") == "+OK"
     return until(60, lambda: new in primaries().values() and port not in primaries().values())

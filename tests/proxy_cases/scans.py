@@ -4,7 +4,8 @@ import subprocess
 import threading
 from collections import Counter
 
-from shared import Client, MOVED_SLOT, OTHER, PORT, PROXY, cluster, proxy
+from notifications import fail_over
+from shared import Client, MOVED_SLOT, OTHER, PORT, PROXY, cluster, port_of, primaries, proxy, until
 
 
 def fill(count):
@@ -69,3 +70,19 @@ def try_scan_move():
     print(f"{len(scans)} scans, {sum(missing)} keys missing; after that {len(after)}")
     return len(scans) > 2 and sum(missing) == 0 and after == keys.union(moving)
 
+
+def try_scan_failover():
+    """A scan that goes on after a replica has taken the place of a primary returns each key of the other primaries."""
+    keys, client, port = fill(1000), Client(), port_of("foo")
+    ports, found, cursor = primaries(), set(), b"0"
+    slots = zip(keys, Client(PORT).ask_all(["CLUSTER", "KEYSLOT", it] for it in keys))
+    staying = {it for it, slot in slots if ports[slot] != port}
+    for at in range(1000):
+        cursor, some = client.ask("SCAN", cursor, "COUNT", "20")
+        found.update(some)
+        if at == 20:
+            took = fail_over(port), until(10, lambda: client.ask("SET", "foo", "1") == "+OK"), int(cursor) >> 48
+        if cursor == b"0":
+            break
+    print(took, len(staying), len(found), len(staying - found))
+    return took[0] is not None and not staying - found
