@@ -259,7 +259,7 @@ void node_tick(node *it) {
     bool owes = it->state == NODE_OPENING || it->state == NODE_LOGIN ||
                 (it->state == NODE_OPEN && it->count > 0 && !it->is_new);
     if (it->is_private && it->state == NODE_OPEN && it->client != NULL &&
-        (it->count > 0 || it->client->is_subscribed)) {
+        (it->count > 0 || it->client->is_subscribed || it->client->is_watching)) {
         private_tick(it);
         return;
     }

@@ -1,6 +1,7 @@
 """WATCH, and what stands between MULTI and EXEC."""
 
 import threading
+import time
 from collections import Counter
 
 from shared import Client, Move, OTHER, PORT, PROXY, port_of, proxy, until
@@ -35,7 +36,7 @@ def try_watch():
 
 
 def try_watch_lost():
-    """EXEC gives nil if the connection that watches was lost, or the slot has moved."""
+    """EXEC gives nil if the connection that watches was lost, or the slot has moved. An idle one is kept."""
     client, found = Client(), []
     client.ask("MSET", "{watch}a", "1", "{watch}b", "1")
     for does in ("kill", "move"):
@@ -48,9 +49,12 @@ def try_watch_lost():
             move.finish("{watch}b")
         found.append(client.ask_all([["MULTI"], ["INCR", "{watch}a"], ["EXEC"]])[2])
     until(10, lambda: client.ask("GET", "{watch}a") == b"1")
+    client.ask("WATCH", "{watch}a")
+    time.sleep(12)  # a connection that is not needed is closed after ten seconds
+    found.append(client.ask_all([["MULTI"], ["GET", "{watch}a"], ["EXEC"]])[2])
     found.append(client.ask_all([["WATCH", "{watch}a"], ["MULTI"], ["INCR", "{watch}a"], ["EXEC"]]))
     print(found)
-    return found == ["+OK", None, "+OK", None, ["+OK", "+OK", "+QUEUED", [2]]]
+    return found == ["+OK", None, "+OK", None, [b"1"], ["+OK", "+OK", "+QUEUED", [2]]]
 
 
 def try_watch_storm():
