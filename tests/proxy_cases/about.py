@@ -40,8 +40,9 @@ def try_config():
 
 def try_clients():
     """CLIENT tells of the clients, with names of any length. What would change the connection is refused."""
-    client, subscriber, name = Client(), Client(), "n" * 5000
-    subscriber.ask("SUBSCRIBE", "news")
+    client, at_threads, name = Client(), [Client(), Client()], "n" * 5000
+    for it in at_threads:
+        it.ask("SUBSCRIBE", "news")
     found = [client.ask("CLIENT", *it.split()) for it in (f"SETNAME {name}", "GETNAME", "SETINFO LIB-NAME x", "NO-EVICT on", "NO-TOUCH OFF", "ID")]
     own, everyone = client.ask("CLIENT", "INFO").decode(), client.ask("CLIENT", "LIST").decode().splitlines()
     subscribers = client.ask("CLIENT", "LIST", "TYPE", "pubsub").decode().splitlines()
