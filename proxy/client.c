@@ -1,11 +1,13 @@
 #include "client.h"
 
 #include "commands.h"
+#include "inline.h"
 #include "invariants.h"
 #include "node.h"
 #include "peer.h"
 #include "private.h"
 #include "request.h"
+#include "scan.h"
 #include "subscription.h"
 #include "transaction.h"
 
@@ -25,8 +27,9 @@ void client_begin(worker *worker, int fd) {
     it->peer = (peer){.kind = PEER_CLIENT, .fd = fd};
     it->worker = worker;
     it->id = atomic_fetch_add(&the_proxy.next_id, 1) + 1;
-    it->active_at = worker->now;
+    it->active_at = it->begun_at = worker->now;
     it->is_known = the_proxy.settings.password == NULL;
+    it->multi_slot = NO_SLOT;
     it->next = worker->clients;
     if (it->next != NULL)
         it->next->previous = it;
@@ -69,6 +72,7 @@ static void client_close(client *it) {
     private_drop(it);
     buffer_free(&it->in);
     buffer_free(&it->out);
+    buffer_free(&it->name);
     close(it->peer.fd);
     it->peer.fd = -1;
     if (it->next != NULL)
@@ -93,7 +97,7 @@ void client_free(client *it) {
 }
 
 /* The replies that a client has not read. */
-static size_t unread(const client *it) { return buffer_len(&it->out) + it->kept; }
+static size_t unread(const client *it) { return buffer_len(&it->out) + buffer_len(&it->early) + it->kept; }
 
 /* Whether the next request may wait until nodes have answered the earlier ones. It never waits for the client
  * to read: a client may write all of its requests first. */
@@ -110,9 +114,7 @@ static bool may_read(const client *it) {
 }
 
 /* Whether the client waits for as long as a node likes, as with BLPOP. */
-static bool is_blocked(const client *it) {
-    return it->first != NULL && it->first->is_private && !it->first->is_subscription;
-}
+static bool is_blocked(const client *it) { return it->first != NULL && it->first->is_blocking; }
 
 /* Refuses a command, with its name. */
 static void refuse(client *it, words words, const char *why) {
@@ -132,7 +134,10 @@ static const char *refusal_of_state(const client *it, command_kind kind) {
     if (it->is_elsewhere && kind != COMMAND_AUTH && kind != COMMAND_SELECT)
         return "SELECT was refused, so this command is for another database: until SELECT 0, the proxy takes "
                "AUTH, QUIT and RESET alone";
-    if (it->is_subscribed && kind != COMMAND_SUBSCRIPTION && kind != COMMAND_PING)
+    if (it->is_subscribed && it->is_three &&
+        (kind == COMMAND_BLOCKING || kind == COMMAND_TRANSACTION || kind == COMMAND_HELLO))
+        return "the proxy does not take this from a subscriber: it would go over the same connection";
+    if (it->is_subscribed && !it->is_three && kind != COMMAND_SUBSCRIPTION && kind != COMMAND_PING)
         return "only (P)SUBSCRIBE, (P)UNSUBSCRIBE, PING, QUIT and RESET are allowed in this context";
     return NULL;
 }
@@ -142,8 +147,6 @@ static bool take(client *it, const uint8_t *bytes, size_t len) {
     command_kind kind = command_of(bytes, len);
     words words = words_of(bytes, len);
     const char *refusal = command_refusal(kind), *refusal_now = refusal_of_state(it, kind);
-    bool is_taken =
-        kind == COMMAND_TAKEN || kind == COMMAND_SPLIT || kind == COMMAND_SCRIPT || kind == COMMAND_STREAM;
     bool has_begun = true;
     if (words.left == 0)
         return true; /* a server does not answer a request of no words either */
@@ -151,15 +154,19 @@ static bool take(client *it, const uint8_t *bytes, size_t len) {
         request_answer_own(it, "-NOAUTH Authentication required.\r\n", 34);
     else if (refusal_now != NULL)
         request_refuse(it, refusal_now);
+    else if ((kind == COMMAND_HELLO || kind == COMMAND_RESET) && it->first != NULL)
+        has_begun = false; /* what follows may go over other connections */
     else if (kind == COMMAND_TRANSACTION)
-        transaction_command(it, bytes, len);
+        has_begun = transaction_command(it, bytes, len);
     else if (it->is_multi && kind != COMMAND_QUIT && kind != COMMAND_RESET)
-        transaction_queue(it, bytes, len, is_taken);
+        transaction_queue(it, bytes, len, kind);
     else if (refusal != NULL)
         refuse(it, words, refusal);
     else if (kind == COMMAND_SUBSCRIPTION)
         has_begun = subscription_begin(it, bytes, len);
-    else if (is_taken || kind == COMMAND_BLOCKING)
+    else if (kind == COMMAND_CURSOR)
+        scan_begin(it, bytes, len);
+    else if (command_is_taken(kind) || kind == COMMAND_BLOCKING)
         has_begun = request_begin(it, bytes, len, kind);
     else
         own_answer(it, kind, bytes, len);
@@ -168,13 +175,25 @@ static bool take(client *it, const uint8_t *bytes, size_t len) {
     return has_begun;
 }
 
+/* Takes a request that is a line of text. */
+static whole take_line(client *it, const uint8_t *bytes, size_t len, size_t *end) {
+    buffer request = {0};
+    whole found = inline_read(bytes, len, &request, end);
+    if (found == IS_WHOLE && buffer_len(&request) > 0)
+        take(it, buffer_at(&request), buffer_len(&request));
+    buffer_free(&request);
+    return found;
+}
+
 /* Takes the requests that have come whole, as far as the client may be read. Returns how many bytes they
  * have. */
 static size_t take_requests(client *it, const uint8_t *bytes, size_t len) {
     size_t used = 0, end = 0;
     while (used < len && may_read(it)) {
         size_t most = it->is_known ? the_proxy.settings.max_message : STRANGER; /* AUTH may have changed it */
-        whole found = layer_request(bytes + used, len - used, &it->progress, &end);
+        bool is_line = bytes[used] != '*';
+        whole found = is_line ? take_line(it, bytes + used, len - used, &end)
+                              : layer_request(bytes + used, len - used, &it->progress, &end);
         bool is_long = (found == IS_WHOLE ? end : len - used) > most;
         if (found == IS_MALFORMED || is_long) {
             char text[100];
@@ -184,7 +203,7 @@ static size_t take_requests(client *it, const uint8_t *bytes, size_t len) {
             client_end(it);
             return len;
         }
-        if (found == IS_PIECE || !take(it, bytes + used, end))
+        if (found == IS_PIECE || (!is_line && !take(it, bytes + used, end)))
             break;
         used += end;
     }
@@ -279,6 +298,8 @@ void client_tick(client *it) {
         client_touch(it);
     if (it->own != NULL)
         node_tick(it->own);
+    for (node *ear = it->ears; ear != NULL; ear = ear->next_ear)
+        node_tick(ear);
     if (it->worker->now - it->active_at > SECOND && buffer_len(&it->out) == 0)
         buffer_free(&it->out); /* it is idle */
     if (it->worker->now - it->active_at > SECOND && buffer_len(&it->in) == 0)

@@ -8,14 +8,16 @@
 
 /* Nodes answer a TAKEN command once and at once, and it leaves the connection, which many clients
  * share, as it was. A SPLIT is such a command that the library splits by slot. A SCRIPT is such a command
- * that runs code: an error of it may follow effects. A STREAM is one unless it has the word BLOCK. BLOCKING
- * ones and SUBSCRIPTIONs go over a connection of the client's own. The proxy answers those from PING on. */
+ * that runs code: an error of it may follow effects. A STREAM is one unless it has the word BLOCK. PUBLISH
+ * goes to the node that has all subscriptions. BLOCKING ones and SUBSCRIPTIONs go over a connection of the
+ * client's own. The proxy answers those from PING on. */
 typedef enum command_kind {
     COMMAND_UNKNOWN,
     COMMAND_TAKEN,
     COMMAND_SPLIT,
     COMMAND_SCRIPT,
     COMMAND_STREAM,
+    COMMAND_PUBLISH,
     COMMAND_TRANSACTION,
     COMMAND_SUBSCRIPTION,
     COMMAND_MONITOR,
@@ -31,6 +33,8 @@ typedef enum command_kind {
     COMMAND_HELLO,
     COMMAND_CLIENT,
     COMMAND_INFO,
+    COMMAND_ROLE,
+    COMMAND_CONFIG,
     COMMAND_RESET,
 } command_kind;
 
@@ -60,6 +64,11 @@ const char *commands_take(const char *name);
 
 /* What a request is, by its first words. */
 command_kind command_of(const uint8_t *request, size_t len);
+
+/* Whether nodes answer it over a connection that many clients share. */
+static inline bool command_is_taken(command_kind kind) {
+    return kind >= COMMAND_TAKEN && kind <= COMMAND_PUBLISH;
+}
 
 /* Why a command of this kind is refused, or NULL if it is not. */
 const char *command_refusal(command_kind kind);

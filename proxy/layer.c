@@ -137,6 +137,34 @@ bool layer_redirect(const uint8_t *error, size_t len, const char *answering, red
     return true;
 }
 
+/* These two stand here until the library has them, by the same names. */
+enum { CURSOR_BITS = 48 };
+
+static uint32_t slotroute_scan_position(uint64_t cursor, uint32_t nodes, uint32_t *node,
+                                        uint64_t *node_cursor) {
+    if (cursor >> CURSOR_BITS >= nodes)
+        return SLOTROUTE_UNFIT;
+    *node = (uint32_t)(cursor >> CURSOR_BITS);
+    *node_cursor = cursor & ((1ULL << CURSOR_BITS) - 1);
+    return SLOTROUTE_DONE;
+}
+
+static uint32_t slotroute_next_cursor(uint32_t node, uint64_t node_cursor, uint32_t nodes, uint64_t *cursor) {
+    if (node >= nodes || node_cursor >> CURSOR_BITS != 0)
+        return SLOTROUTE_UNFIT;
+    uint64_t next = node_cursor != 0 ? node : node + 1ULL;
+    *cursor = next == nodes ? 0 : next << CURSOR_BITS | node_cursor;
+    return SLOTROUTE_DONE;
+}
+
+bool layer_scan_position(uint64_t cursor, uint32_t nodes, uint32_t *node, uint64_t *node_cursor) {
+    return slotroute_scan_position(cursor, nodes, node, node_cursor) == SLOTROUTE_DONE;
+}
+
+bool layer_next_cursor(uint32_t node, uint64_t node_cursor, uint32_t nodes, uint64_t *cursor) {
+    return slotroute_next_cursor(node, node_cursor, nodes, cursor) == SLOTROUTE_DONE;
+}
+
 void layer_message(uint32_t answer, char *text, size_t room) {
     size_t len = slotroute_message(answer, (uint8_t *)text, room - 1);
     text[len < room ? len : 0] = 0;

@@ -59,6 +59,11 @@ typedef struct redirect {
 /* Reads an error with its mark and line end. False if it is no redirect. */
 bool layer_redirect(const uint8_t *error, size_t len, const char *answering, redirect *redirect);
 
+/* What a cursor of SCAN over this many nodes means, and the next one. 0 follows the last node. False if it
+ * names no node, or a node's cursor is too large. */
+bool layer_scan_position(uint64_t cursor, uint32_t nodes, uint32_t *node, uint64_t *node_cursor);
+bool layer_next_cursor(uint32_t node, uint64_t node_cursor, uint32_t nodes, uint64_t *cursor);
+
 /* Writes the text of an answer of the library. */
 void layer_message(uint32_t answer, char *text, size_t room);
 

@@ -103,6 +103,9 @@ static bool run(void) {
     say("%s, %llu threads, before %zu primaries and %zu replicas with %zu slots", the_proxy.settings.listen,
         (unsigned long long)started, first->map.primary_count,
         first->map.all_count - first->map.primary_count, first->map.slots);
+    if (the_proxy.settings.split_transactions)
+        say("split-transactions: a transaction over several slots is not atomic: one slot may take effect "
+            "without another");
     if (started == count)
         worker_run(first);
     for (uint64_t at = 1; at < started; at++)

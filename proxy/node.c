@@ -2,6 +2,7 @@
 
 #include "client.h"
 #include "invariants.h"
+#include "own.h"
 #include "peer.h"
 #include "private.h"
 #include "request.h"
@@ -39,6 +40,15 @@ node *node_at(worker *worker, const char *host, uint16_t port) {
     it->number = (uint16_t)worker->node_count;
     worker->nodes[worker->node_count++] = it;
     return it;
+}
+
+node *node_three(node *it) {
+    if (it->three == NULL) {
+        it->three = node_new(it->worker, it->host, it->port);
+        it->three->is_private = false;
+        it->three->is_three = true;
+    }
+    return it->three;
 }
 
 void node_touch(node *it) {
@@ -97,9 +107,11 @@ static void deliver(node *it, const uint8_t *reply, size_t len) {
         check_that(first.request->client_id == first.client_id, "a reply goes to who asked");
         part_reply(first.request, first.part, it, reply, len);
     } else if (first.waits == WAITS_QUEUED) {
-        transaction_queued(first.request, reply, len);
+        transaction_queued(first.request, first.part, reply, len);
     } else if (first.waits == WAITS_MAP) {
         topology_reply(it, first.client_id, reply, len);
+    } else if (first.waits == WAITS_INFO) {
+        info_reply(it->worker, reply, len);
     } else if (first.waits == WAITS_PASSWORD && reply[0] == '-') {
         char text[100];
         snprintf(text, sizeof text, "AUTH: %.*s", (int)(len - 3), (const char *)reply + 1);
@@ -133,7 +145,7 @@ static size_t take_replies(node *it, const uint8_t *bytes, size_t len) {
             used += end;
             continue;
         }
-        if (it->count == 0 || !was_written(it)) {
+        if (it->count == 0 || !was_written(it) || (bytes[used] == '>' && !it->is_private)) {
             figure_add(&it->worker->stats.counts[COUNT_STRAY], 1);
             warn("node %s:%u: a reply that nobody waits for", it->host, it->port);
             node_doom(it, "a reply that nobody waits for");
@@ -205,6 +217,8 @@ static void lose(node *it) {
     it->is_failing = it->is_failing || !was_open || count > 0;
     it->failed = it->worker->now;
     it->lost = NULL; /* those who waited may ask it anew */
+    if (it->client != NULL)
+        it->client->is_watch_lost = true;
     for (size_t at = 0; at < count; at++) {
         const waiter *lost = &queue[(first + at) % room];
         if (lost->waits == WAITS_PART)
@@ -213,7 +227,7 @@ static void lose(node *it) {
             topology_lost(it, lost->client_id);
     }
     memory_give(queue, room * sizeof *queue);
-    if (it->client != NULL && it->client->is_subscribed)
+    if (it->client != NULL && (it->client->is_subscribed || it != it->client->own))
         client_doom(it->client, "the connection with its subscriptions was lost");
     topology_want(it->worker);
 }
@@ -239,11 +253,13 @@ void node_settle(node *it) {
 }
 
 void node_tick(node *it) {
+    if (it->three != NULL)
+        node_tick(it->three);
     uint64_t limit = the_proxy.settings.timeout * MILLISECOND;
     bool owes = it->state == NODE_OPENING || it->state == NODE_LOGIN ||
                 (it->state == NODE_OPEN && it->count > 0 && !it->is_new);
     if (it->is_private && it->state == NODE_OPEN && it->client != NULL &&
-        (it->count > 0 || it->client->is_subscribed)) {
+        (it->count > 0 || it->client->is_subscribed || it->client->is_watching)) {
         private_tick(it);
         return;
     }
@@ -257,6 +273,8 @@ void node_tick(node *it) {
 }
 
 void node_end(node *it) {
+    if (it->three != NULL)
+        node_end(it->three);
     if (it->peer.fd >= 0)
         close(it->peer.fd);
     for (size_t at = 0; at < it->count; at++) { /* what waits is of clients that have gone */

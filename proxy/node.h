@@ -11,6 +11,9 @@ node *node_at(worker *worker, const char *host, uint16_t port);
 /* A node that is none of the map, for one client alone. */
 node *node_new(worker *worker, const char *host, uint16_t port);
 
+/* The connection to the same node on which replies have version 3. */
+node *node_three(node *node);
+
 /* Puts a request into the stream to a node, and who waits for the reply into its queue. Nothing is written
  * and nobody is called back before the end of the round. */
 void node_ask(node *node, const void *bytes, size_t len, waiter waiter);

@@ -31,14 +31,23 @@ void node_open(node *it) {
     freeaddrinfo(found);
 }
 
-/* Sends the password. Nothing else is sent before its reply. */
+/* Sends the password, or asks for version 3. Nothing else is sent before the reply. */
 static void log_in(node *it) {
     const settings *set = &the_proxy.settings;
+    const char *user = set->node_user, *password = set->node_password;
     buffer words = {0};
-    buffer_print(&words,
-                 set->node_user != NULL ? "*3\r\n$4\r\nAUTH\r\n$%zu\r\n%s\r\n" : "*2\r\n$4\r\nAUTH\r\n",
-                 set->node_user != NULL ? strlen(set->node_user) : 0, set->node_user);
-    buffer_print(&words, "$%zu\r\n%s\r\n", strlen(set->node_password), set->node_password);
+    if (it->is_three && user == NULL)
+        user = "default";
+    buffer_print(&words, "*%d\r\n",
+                 (it->is_three ? 2 : 0) + (password != NULL ? 2 : 0) + (password != NULL && user != NULL));
+    if (it->is_three)
+        buffer_text(&words, "$5\r\nHELLO\r\n$1\r\n3\r\n");
+    if (password != NULL)
+        buffer_text(&words, "$4\r\nAUTH\r\n");
+    if (password != NULL && user != NULL)
+        buffer_print(&words, "$%zu\r\n%s\r\n", strlen(user), user);
+    if (password != NULL)
+        buffer_print(&words, "$%zu\r\n%s\r\n", strlen(password), password);
     node_make_room(it);
     it->first = (it->first + it->room - 1) % it->room;
     it->queue[it->first] = (waiter){.waits = WAITS_PASSWORD};
@@ -68,7 +77,7 @@ void node_finish_opening(node *it) {
     it->heard = it->worker->now;
     if (fault != 0)
         node_doom(it, strerror(fault));
-    else if (the_proxy.settings.node_password != NULL)
+    else if (the_proxy.settings.node_password != NULL || it->is_three)
         log_in(it);
     else
         node_become_open(it);

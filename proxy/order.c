@@ -3,8 +3,10 @@
 #include "client.h"
 #include "invariants.h"
 #include "node.h"
+#include "own.h"
 #include "request.h"
 #include "topology.h"
+#include "transaction.h"
 
 #include <string.h>
 
@@ -91,6 +93,11 @@ static bool step(client *client, uint16_t slot) {
     place first = first_open(client, slot);
     if (first.request == NULL || part_at(first)->state == PART_SENT)
         return false;
+    if (transaction_is_void(first.request, first.part)) {
+        const char *nil = own_nil(first.request->is_three);
+        part_finish(first.request, first.part, (const uint8_t *)nil, strlen(nil));
+        return true;
+    }
     const node *lost = out_of_reach(first);
     if (lost != NULL) {
         part_fail_at(first.request, first.part, lost, lost->why, false);

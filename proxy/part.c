@@ -5,6 +5,7 @@
 #include "node.h"
 #include "order.h"
 #include "private.h"
+#include "scan.h"
 #include "subscription.h"
 #include "topology.h"
 #include "transaction.h"
@@ -20,7 +21,11 @@ node *part_node(const request *it, uint32_t at) {
     node *to = part->to != NULL        ? part->to
                : part->slot == NO_SLOT ? topology_any(worker)
                                        : topology_owner(worker, part->slot);
-    return to != NULL && it->is_private ? private_node(it->client, to) : to;
+    if (to == NULL || !it->is_private)
+        return to != NULL && it->is_three ? node_three(to) : to;
+    if (it->is_transaction)
+        return it->client->own;
+    return at + 1 < it->parts ? private_ear(it->client, to) : private_node(it->client, to);
 }
 
 void part_send(request *it, uint32_t at) {
@@ -38,8 +43,8 @@ void part_send(request *it, uint32_t at) {
     part->state = PART_SENT;
     it->in_flight++;
     figure_add(&worker->stats.counts[COUNT_PARTS], 1);
-    if (it->queued > 0)
-        transaction_ask(to, it);
+    if (it->is_transaction)
+        transaction_ask(to, it, at);
     else
         node_ask(to, it->sent + part->start, part->end - part->start,
                  (waiter){.request = it, .part = at, .client_id = it->client_id, .waits = WAITS_PART});
@@ -137,11 +142,13 @@ void part_reply(request *it, uint32_t at, node *from, const uint8_t *reply, size
     if (client == NULL) {
         drop(it, at);
     } else if (it->is_subscription) {
-        subscription_end(it, reply, len);
+        subscription_end(it, at, reply, len);
+    } else if (it->is_scan && reply[0] == '*') {
+        scan_end(it, reply, len);
     } else if (reply[0] != '-') {
         part_finish(it, at, reply, len);
-    } else if (it->queued > 0 ? !transaction_follow(it, from, reply, len)
-                              : !redirect_follow(it, at, from, reply, len)) {
+    } else if (it->is_transaction ? !transaction_follow(it, at, from, reply, len)
+                                  : !redirect_follow(it, at, from, reply, len)) {
         figure_add(&from->worker->stats.counts[COUNT_NODE_ERRORS], 1);
         part_finish(it, at, reply, len);
     }
@@ -150,10 +157,11 @@ void part_reply(request *it, uint32_t at, node *from, const uint8_t *reply, size
 }
 
 part_fate part_fate_of(const request *it, bool was_sent) {
+    bool is_for_one_node = it->policy != 0 || it->is_scan;
     return it->client == NULL ? FATE_NOBODY
            : was_sent         ? FATE_UNSURE
-           : it->policy == 0  ? FATE_AGAIN
-                              : FATE_NO_EFFECT;
+           : is_for_one_node  ? FATE_NO_EFFECT
+                              : FATE_AGAIN;
 }
 
 void part_lost(request *it, uint32_t at, node *lost_at, bool was_sent) {

@@ -45,6 +45,7 @@ typedef struct part {
     uint64_t since;    /* when a node refused it for the first time, or 0 */
     uint8_t *reply;    /* NULL for a reply in `small` */
     size_t reply_len;
+    uint32_t queued; /* the commands of a transaction */
     uint16_t slot, redirects;
     uint8_t state;
     bool asking;
@@ -59,14 +60,21 @@ struct request {
     uint64_t client_id, start;
     uint32_t parts, left, in_flight; /* all parts, those not done, those sent */
     uint32_t policy;
-    bool is_split, is_script, is_private;
+    bool is_three; /* its client wants replies of version 3 of the protocol (RESP3) */
+    bool is_split, is_script, is_scan, is_transaction;
+    bool is_private, is_blocking;  /* it goes over the client's own connection; it waits there */
     bool is_subscription, is_told; /* a command about subscriptions, and whether a reply to it has come */
-    uint32_t queued;               /* the commands of a transaction, or 0 */
     size_t kept;                   /* bytes of the replies to its parts */
-    size_t len, size;      /* of the request, and of the block that it stands in */
-    uint8_t *bytes, *sent; /* the request, and what its parts are pieces of */
+    size_t len, size;              /* of the request, and of the block that it stands in */
+    uint8_t *bytes, *sent;         /* the request, and what its parts are pieces of */
     part *part, one;
 };
+
+/* A command after MULTI. */
+typedef struct queued_command {
+    size_t len;
+    uint16_t slot;
+} queued_command;
 
 struct client {
     peer peer;
@@ -90,17 +98,21 @@ struct client {
     bool has_ended;                       /* it will send nothing more */
     bool is_shut;                         /* all was written, and it was told so */
     bool is_paused;                       /* it waits because of the memory of all */
-    bool is_subscribed;
+    bool is_subscribed, is_three;
     bool is_elsewhere; /* it selected another database than 0, and was refused */
-    node *own; /* a connection that it has alone, or NULL */
-    bool is_multi, is_multi_bad;
-    buffer multi; /* the commands since MULTI */
-    uint32_t multi_count;
-    uint16_t multi_slot;
-    char name[64];
+    node *own;         /* a connection that it has alone, or NULL */
+    node *ears;        /* connections to the other primaries, which tell it of their keys */
+    buffer told;       /* requests that subscribe to what is told of keys, each with one name */
+    buffer early;      /* messages that come before the replies to a command about subscriptions */
+    bool is_multi, is_multi_bad, is_watching;
+    bool is_watch_lost;       /* the connection on which it watches is another one now */
+    buffer multi, multi_list; /* the commands since MULTI, and their lengths and slots */
+    uint16_t multi_slot;      /* the first one of these, or the watched one, or NO_SLOT */
+    buffer name;
+    uint64_t begun_at;
 };
 
-typedef enum waits { WAITS_PART, WAITS_QUEUED, WAITS_NOTHING, WAITS_PASSWORD, WAITS_MAP } waits;
+typedef enum waits { WAITS_PART, WAITS_QUEUED, WAITS_NOTHING, WAITS_PASSWORD, WAITS_MAP, WAITS_INFO } waits;
 
 /* Who waits for the next reply of a node. WAITS_NOTHING: the reply is dropped. */
 typedef struct waiter {
@@ -130,9 +142,12 @@ struct node {
     uint64_t failed;  /* when a connection failed last, or 0 */
     const char *lost; /* why the connection is closed at the end of the round, or NULL */
     char why[128];
-    node *next_dirty, *next_left;
+    node *next_dirty, *next_left, *next_ear;
     client *client; /* who has it alone, or NULL */
-    bool is_dirty, is_failing, is_in_map, is_private;
+    node *three;    /* a connection of version 3 to the same node, or NULL */
+    bool is_dirty, is_failing, is_in_map, is_primary, is_private, is_three;
+    bool is_numbered; /* it has a number in cursors of SCAN */
+    uint32_t scan_number;
     bool is_new; /* what it owes was asked for since the last write */
 };
 
@@ -149,6 +164,10 @@ typedef struct topology {
     char why[192];                      /* why there is no map */
 } topology;
 
+/* Fields of a node's INFO. */
+typedef enum node_field { NODE_VERSION, NODE_MAXMEMORY, NODE_POLICY, NODE_FIELDS } node_field;
+enum { FIELD_ROOM = 32 };
+
 struct worker {
     unsigned number;
     int poll, given, giver; /* epoll, and a pipe with the clients that the first thread gives */
@@ -163,7 +182,9 @@ struct worker {
     uint64_t drain_until, pressed_at;
     size_t base; /* the memory that the thread takes without clients */
     stats stats;
-    uint8_t *read; /* room for what is read */
+    uint8_t *read;                        /* room for what is read */
+    char fields[NODE_FIELDS][FIELD_ROOM]; /* the last ones that a node told */
+    uint64_t info_at;                     /* when they are asked for again */
 };
 
 /* The whole program. Threads only read what is not atomic. */

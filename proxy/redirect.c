@@ -15,7 +15,7 @@ static bool begins(const uint8_t *error, size_t len, const char *text) {
 /* Whether the error says that the command did nothing, and may do it after a while. A script can write such
  * an error itself, after effects. Commands after MULTI are not run yet, so their errors are as good. */
 static bool is_pause(const request *request, const uint8_t *error, size_t len) {
-    return (!request->is_script || request->queued > 0) &&
+    return (!request->is_script || request->is_transaction) &&
            (begins(error, len, "-TRYAGAIN ") || begins(error, len, "-CLUSTERDOWN ") ||
             begins(error, len, "-LOADING "));
 }
@@ -48,7 +48,7 @@ bool redirect_follow(request *request, uint32_t part, node *from, const uint8_t 
     bool is_redirect = begins(error, len, "-MOVED ") || begins(error, len, "-ASK ");
     if (!is_redirect || !layer_redirect(error, len, from->host, &found) || found.to.slot != it->slot)
         return false;
-    if (request->is_script && request->queued == 0) { /* the script may say so, after it took effect */
+    if (request->is_script && !request->is_transaction) { /* the script may say so, after it took effect */
         topology_want(worker);
         part_fail_at(request, part, from, "the slot of the keys is moving, or the script says so", true);
         return true;
@@ -68,7 +68,7 @@ bool redirect_follow(request *request, uint32_t part, node *from, const uint8_t 
     } else {
         figure_add(&worker->stats.counts[COUNT_ASK], 1);
         topology_slows(worker, it->slot);
-        if (request->queued > 0) /* ASKING holds for one command, and MULTI would be it */
+        if (request->is_transaction) /* ASKING holds for one command, and MULTI would be it */
             hold_for(request, part, NULL, false, PAUSE);
         else
             hold_for(request, part, to, true, pause);

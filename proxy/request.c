@@ -2,6 +2,8 @@
 
 #include "client.h"
 #include "order.h"
+#include "topology.h"
+#include "transaction.h"
 
 #include <string.h>
 
@@ -16,6 +18,7 @@ static request *request_new(client *client, const uint8_t *bytes, size_t len, ui
     it->size = size;
     it->client = client;
     it->client_id = client->id;
+    it->is_three = client->is_three;
     it->start = client->worker->now;
     it->len = len;
     it->part = parts > 1 ? (part *)(void *)(it + 1) : &it->one;
@@ -57,18 +60,34 @@ static void part_begin(request *it, uint32_t at) {
 static void begin_one(client *client, const uint8_t *bytes, size_t len, uint16_t slot, command_kind kind) {
     request *it = request_new(client, bytes, len, 1, NULL);
     it->is_script = kind == COMMAND_SCRIPT;
-    it->is_private = client->is_alone = kind == COMMAND_BLOCKING;
     it->one = (part){.end = len, .slot = slot};
     part_begin(it, 0);
 }
 
-void request_begin_transaction(client *client, const uint8_t *bytes, size_t len, uint16_t slot,
-                               uint32_t queued) {
+void request_begin_private(client *client, const uint8_t *bytes, size_t len, uint16_t slot,
+                           bool is_blocking) {
     request *it = request_new(client, bytes, len, 1, NULL);
-    it->is_script = true; /* as after a script, an error of EXEC itself may follow effects */
-    it->queued = queued;
+    it->is_private = client->is_alone = true;
+    it->is_blocking = is_blocking;
     it->one = (part){.end = len, .slot = slot};
     part_begin(it, 0);
+}
+
+void request_begin_transaction(client *client) {
+    pieces pieces = {0};
+    transaction_compose(client, &pieces);
+    split split = {.bytes = buffer_at(&pieces.bytes), .len = buffer_len(&pieces.bytes)};
+    request *it =
+        request_new(client, buffer_at(&pieces.order), buffer_len(&pieces.order), pieces.count, &split);
+    it->is_script = true; /* as after a script, an error of EXEC itself may follow effects */
+    it->is_transaction = true;
+    it->is_private = client->is_alone = client->is_watching;
+    memcpy(it->part, buffer_at(&pieces.parts), buffer_len(&pieces.parts));
+    buffer_free(&pieces.bytes);
+    buffer_free(&pieces.order);
+    buffer_free(&pieces.parts);
+    for (uint32_t at = 0; at < it->parts; at++)
+        part_begin(it, at);
 }
 
 /* Sends the parts of a request that the library splits. False if it does not. */
@@ -122,8 +141,10 @@ bool request_begin(client *client, const uint8_t *bytes, size_t len, command_kin
         to.kind == SLOTROUTE_TO_ALL || to.kind == SLOTROUTE_TO_ALL_PRIMARIES || kind == COMMAND_BLOCKING;
     if (is_alone && client->first != NULL)
         return false;
-    if (to.kind == SLOTROUTE_TO_SLOT)
-        begin_one(client, bytes, len, (uint16_t)to.slot, kind);
+    if (to.kind == SLOTROUTE_TO_SLOT && kind == COMMAND_BLOCKING)
+        request_begin_private(client, bytes, len, (uint16_t)to.slot, true);
+    else if (to.kind == SLOTROUTE_TO_SLOT)
+        begin_one(client, bytes, len, kind == COMMAND_PUBLISH ? HERALD_SLOT : (uint16_t)to.slot, kind);
     else if (to.kind == SLOTROUTE_TO_ALL)
         begin_many(client, bytes, len, map->all, map->all_count, to.policy);
     else if (to.kind == SLOTROUTE_TO_ALL_PRIMARIES)
@@ -135,9 +156,28 @@ bool request_begin(client *client, const uint8_t *bytes, size_t len, command_kin
     return true;
 }
 
-void request_begin_subscription(client *client, const buffer *bytes, node *to) {
-    request *it = request_new(client, buffer_at(bytes), buffer_len(bytes), 1, NULL);
+void request_begin_subscription(client *client, const buffer *bytes, size_t len, node *to) {
+    topology *map = &client->worker->map;
+    bool has_ears = len < buffer_len(bytes);
+    uint32_t last = has_ears ? (uint32_t)map->primary_count - to->is_primary : 0;
+    request *it = request_new(client, buffer_at(bytes), buffer_len(bytes), last + 1, NULL);
     it->is_subscription = it->is_private = client->is_alone = true;
+    it->part[last] = (part){.end = len, .slot = NO_SLOT, .to = to};
+    for (uint32_t at = 0, primary = 0; at < last; primary++)
+        if (map->primaries[primary] != to)
+            it->part[at++] =
+                (part){.start = len, .end = it->len, .slot = NO_SLOT, .to = map->primaries[primary]};
+    for (uint32_t at = 0; at < last; at++)
+        part_send(it, at);
+    if (last > 0)
+        part_hold(it, last, PART_HELD); /* it goes out once the others are done */
+    else
+        part_begin(it, 0);
+}
+
+void request_begin_scan(client *client, const buffer *bytes, node *to) {
+    request *it = request_new(client, buffer_at(bytes), buffer_len(bytes), 1, NULL);
+    it->is_scan = true;
     it->one = (part){.end = it->len, .slot = NO_SLOT, .to = to};
     part_begin(it, 0);
 }

@@ -9,13 +9,18 @@
  * are answered: then nothing was done. */
 bool request_begin(client *client, const uint8_t *bytes, size_t len, command_kind kind);
 
-/* Sends a transaction: MULTI, its commands, and EXEC, all of one slot. */
-void request_begin_transaction(client *client, const uint8_t *bytes, size_t len, uint16_t slot,
-                               uint32_t queued);
+/* Sends the pieces of the client's transaction. */
+void request_begin_transaction(client *client);
 
-/* Sends a command about subscriptions, and what asks the node for the end of its replies. `to` has the
- * client's subscriptions, or is NULL for any node. */
-void request_begin_subscription(client *client, const buffer *bytes, node *to);
+/* Sends a request over a connection of the client's own. `is_blocking`: it may wait there. */
+void request_begin_private(client *client, const uint8_t *bytes, size_t len, uint16_t slot, bool is_blocking);
+
+/* Sends a command about subscriptions to the node that has them. The first `len` bytes are the command, and
+ * what asks the node for the end of its replies. The rest goes to all other primaries before. */
+void request_begin_subscription(client *client, const buffer *bytes, size_t len, node *to);
+
+/* Sends SCAN to a node. */
+void request_begin_scan(client *client, const buffer *bytes, node *to);
 
 /* Answers a request with a text of the proxy's own, once the earlier ones are answered. */
 void request_answer_own(client *client, const char *text, size_t len);
@@ -35,6 +40,11 @@ void part_send(request *request, uint32_t part);
 
 /* Keeps a reply until all earlier ones are written. */
 void part_keep(request *request, uint32_t part, const uint8_t *reply, size_t len);
+
+/* The reply that was kept. */
+static inline const uint8_t *part_reply_bytes(const part *part) {
+    return part->reply != NULL ? part->reply : part->small;
+}
 
 /* A part is done, with this reply. May free the request. */
 void part_finish(request *request, uint32_t part, const uint8_t *reply, size_t len);

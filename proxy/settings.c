@@ -38,6 +38,8 @@ static const row rows[] = {
     {"client-timeout", "milliseconds that a client may leave replies unread (60000)", NUMBER,
      AT(client_timeout), 100, 86400000},
     {"drain", "milliseconds that SIGTERM leaves to open requests (10000)", NUMBER, AT(drain), 0, 3600000},
+    {"split-transactions", "take MULTI over several slots, which is not atomic", SWITCH,
+     AT(split_transactions), 0, 0},
     {"quiet", "log only errors", SWITCH, AT(quiet), 0, 0},
 };
 enum { ROWS = sizeof rows / sizeof *rows };

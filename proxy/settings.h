@@ -17,7 +17,7 @@ typedef struct settings {
     uint64_t max_message, max_reply;                /* bytes of a request, of a reply */
     uint64_t client_memory, memory;                 /* bytes that one client, and all, may take */
     uint64_t timeout, retry, client_timeout, drain; /* milliseconds */
-    bool quiet;
+    bool quiet, split_transactions;
 } settings;
 
 /* Reads flags, and the file that --config names. Prints what is wrong and returns false. */

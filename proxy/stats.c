@@ -55,20 +55,15 @@ static uint64_t sum_of(size_t offset) {
     return sum;
 }
 
-static uint64_t count_of(size_t counter) {
-    return sum_of(offsetof(stats, counts) + counter * sizeof(uint64_t));
-}
+uint64_t stats_count(counter counter) { return sum_of(offsetof(stats, counts) + counter * sizeof(uint64_t)); }
 
 static uint64_t took_of(size_t step) { return sum_of(offsetof(stats, took) + step * sizeof(uint64_t)); }
 
 void stats_info(buffer *out) {
-    buffer_print(out, "# Server\r\nredis_version:7.0.0\r\nredis_mode:standalone\r\nproxy:slotroute %s\r\n",
-                 SLOTROUTE_VERSION);
-    buffer_print(out, "uptime_in_seconds:%llu\r\n",
-                 (unsigned long long)((clock_now() - the_proxy.start) / SECOND));
-    buffer_print(out, "threads:%llu\r\n\r\n# Stats\r\n", (unsigned long long)the_proxy.settings.threads);
-    for (size_t at = 0; at < COUNTERS; at++)
-        buffer_print(out, "%s:%llu\r\n", rows[at].info, (unsigned long long)count_of(at));
+    buffer_text(out, "# Stats\r\n");
+    for (counter at = 0; at < COUNTERS; at++)
+        if (at != COUNT_CLIENTS_NOW && at != COUNT_MEMORY) /* which have sections of their own */
+            buffer_print(out, "%s:%llu\r\n", rows[at].info, (unsigned long long)stats_count(at));
     buffer_text(out, "\r\n# Latency, commands that took less than so many microseconds\r\n");
     for (size_t at = 0; at + 1 < LATENCY_STEPS; at++)
         if (took_of(at) > 0)
@@ -78,10 +73,10 @@ void stats_info(buffer *out) {
 }
 
 void stats_prometheus(buffer *out) {
-    for (size_t at = 0; at < COUNTERS; at++) {
+    for (counter at = 0; at < COUNTERS; at++) {
         buffer_print(out, "# HELP slotroute_proxy_%s %s\n", rows[at].name, rows[at].says);
         buffer_print(out, "# TYPE slotroute_proxy_%s %s\n", rows[at].name, rows[at].type);
-        buffer_print(out, "slotroute_proxy_%s %llu\n", rows[at].name, (unsigned long long)count_of(at));
+        buffer_print(out, "slotroute_proxy_%s %llu\n", rows[at].name, (unsigned long long)stats_count(at));
     }
     uint64_t below = 0;
     buffer_text(

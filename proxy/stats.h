@@ -52,6 +52,9 @@ static inline uint64_t figure_read(const _Atomic uint64_t *figure) {
 
 void stats_took(stats *stats, uint64_t microseconds);
 
+/* The sum of a figure over all threads. */
+uint64_t stats_count(counter counter);
+
 /* Writes the figures of all threads as INFO does, or for Prometheus. */
 void stats_info(buffer *out);
 void stats_prometheus(buffer *out);

@@ -2,7 +2,11 @@
  *
  * A command about subscriptions has as many replies as it names channels, and messages come between them. So
  * the proxy sends another command after it, whose one reply says that all of them have come. The client's
- * next request waits for that. */
+ * next request waits for that.
+ *
+ * Nodes tell of their own keys alone. So channels and patterns that begin with __key are subscribed at all
+ * primaries: at the others by `ears` of the client, of which it gets nothing but messages. These are asked
+ * before the node that has all subscriptions of the client, and whose replies the client gets. */
 #ifndef PROXY_SUBSCRIPTION_H
 #define PROXY_SUBSCRIPTION_H
 
@@ -16,7 +20,11 @@ bool subscription_begin(client *client, const uint8_t *bytes, size_t len);
 bool subscription_has(const node *own, const uint8_t *reply, size_t len);
 void subscription_message(node *own, const uint8_t *message, size_t len);
 
-/* All replies to a command have come. This one says how many subscriptions the client has. */
-void subscription_end(request *request, const uint8_t *reply, size_t len);
+/* All replies to a part of a command have come. The last part's says how many subscriptions the client has.
+ */
+void subscription_end(request *request, uint32_t part, const uint8_t *reply, size_t len);
+
+/* The map was read: what is told of keys comes from its primaries. */
+void subscription_follow(client *client);
 
 #endif

@@ -1,7 +1,10 @@
 #include "topology.h"
 
 #include "node.h"
+#include "own.h"
 #include "peer.h"
+#include "scan.h"
+#include "subscription.h"
 
 #include <stdio.h>
 #include <stdlib.h>
@@ -50,6 +53,11 @@ node *topology_any(worker *worker) {
     return map->primary_count > 0 ? map->primaries[0] : NULL;
 }
 
+node *topology_herald(worker *worker) {
+    node *it = topology_owner(worker, HERALD_SLOT);
+    return it != NULL && !it->is_failing ? it : topology_any(worker);
+}
+
 /* The nodes of lines HOST:PORT. Returns how many there are. */
 static size_t nodes_of(worker *worker, buffer *lines, node **nodes, size_t room) {
     size_t count = 0;
@@ -85,8 +93,9 @@ static void add_all(topology *map, node **nodes, size_t count) {
 static void change_owner(worker *worker, uint16_t slot) {
     node *old = topology_owner(worker, slot);
     topology_slows(worker, slot);
-    if (old != NULL && (old->state == NODE_OPENING || old->state == NODE_LOGIN))
-        node_doom(old, "another node has its slots");
+    for (; old != NULL; old = old->three)
+        if (old->state == NODE_OPENING || old->state == NODE_LOGIN)
+            node_doom(old, "another node has its slots");
 }
 
 /* Takes the owners of slots. */
@@ -124,11 +133,15 @@ static bool take_map(worker *worker, node *from, const uint8_t *reply, size_t le
     if (is_map) {
         size_t count = nodes_of(worker, &lines, found, MOST_NODES);
         for (size_t at = 0; at < worker->node_count; at++)
-            worker->nodes[at]->is_in_map = false;
+            worker->nodes[at]->is_in_map = worker->nodes[at]->is_primary = false;
         map->primary_count = map->all_count = 0;
         add_all(map, found, count);
         memcpy(map->primaries, map->all, map->all_count * sizeof *map->all);
         map->primary_count = map->all_count;
+        for (size_t at = 0; at < map->primary_count; at++)
+            map->primaries[at]->is_primary = true;
+        for (size_t at = 0; at < map->primary_count; at++)
+            scan_number(map->primaries[at]);
         take_owners(worker, numbers, found, count);
         buffer_drop(&lines, buffer_len(&lines));
         layer_replicas(&text, from->host, &lines);
@@ -162,6 +175,7 @@ static void ask_next(worker *worker) {
     map->asked_at = worker->now;
     map->number++;
     node_ask(chosen, question, sizeof question - 1, (waiter){.waits = WAITS_MAP, .client_id = map->number});
+    info_ask(chosen);
 }
 
 /* The map that was asked for does not come. */
@@ -195,6 +209,8 @@ void topology_reply(node *from, uint64_t number, const uint8_t *reply, size_t le
         go_on(worker);
         return;
     }
+    for (client *at = worker->clients; at != NULL; at = at->next)
+        subscription_follow(at);
     bool is_failing = false;
     for (size_t at = 0; at < map->primary_count; at++)
         is_failing |= map->primaries[at]->is_failing && worker->now - map->primaries[at]->failed < RECENT;

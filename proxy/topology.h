@@ -22,6 +22,11 @@ void topology_moved(worker *worker, uint16_t slot, node *to);
 void topology_slows(worker *worker, uint16_t slot);
 bool topology_is_slow(const worker *worker, uint16_t slot);
 
+/* The primary of this slot has all subscriptions and gets all that is published, so that PUBLISH counts them,
+ * and messages have an order. */
+enum { HERALD_SLOT = 0 };
+node *topology_herald(worker *worker);
+
 /* A primary that any command may go to, or NULL. */
 node *topology_any(worker *worker);
 

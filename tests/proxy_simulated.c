@@ -170,6 +170,8 @@ static void put_reply(connection *it, words words) {
         put_words(&it->out, keys);
     } else if (word_is(name, "DEL") || word_is(name, "EXISTS") || word_is(name, "DBSIZE")) {
         buffer_print(&it->out, ":%u\r\n", (unsigned)keys.left);
+    } else if (word_is(name, "SCAN")) {
+        buffer_text(&it->out, "*2\r\n$1\r\n7\r\n*0\r\n");
     } else if (word_is(name, "BLPOP")) {
         buffer_text(&it->out, "*-1\r\n");
     } else if (word_is(name, "SUBSCRIBE") || word_is(name, "UNSUBSCRIBE")) {
@@ -302,6 +304,8 @@ static const char *const templates[] = {
     "*1\r\n$5\r\nMULTI\r\n",
     "*1\r\n$4\r\nEXEC\r\n",
     "*1\r\n$7\r\nDISCARD\r\n",
+    "*2\r\n$5\r\nWATCH\r\n$1\r\na\r\n",
+    "*1\r\n$7\r\nUNWATCH\r\n",
     "*3\r\n$5\r\nBLPOP\r\n$1\r\na\r\n$1\r\n0\r\n",
     "*2\r\n$9\r\nSUBSCRIBE\r\n$1\r\nc\r\n",
     "*2\r\n$11\r\nUNSUBSCRIBE\r\n$1\r\nc\r\n",
@@ -313,8 +317,11 @@ static const char *const templates[] = {
     "*1\r\n$5\r\nRESET\r\n",
     "*1\r\n$4\r\nINFO\r\n",
     "*2\r\n$4\r\nSCAN\r\n$1\r\n0\r\n",
+    "*3\r\n$7\r\nPUBLISH\r\n$1\r\nc\r\n$1\r\nx\r\n",
+    "*3\r\n$10\r\nPSUBSCRIBE\r\n$5\r\n__key\r\n$1\r\nc\r\n",
     "*3\r\n$6\r\nCLIENT\r\n$7\r\nSETNAME\r\n$1\r\nn\r\n",
     "*2\r\n$5\r\nHELLO\r\n$1\r\n2\r\n",
+    "*2\r\n$5\r\nHELLO\r\n$1\r\n3\r\n",
     "*1\r\n$4\r\nQUIT\r\n",
 };
 
@@ -447,7 +454,9 @@ int LLVMFuzzerInitialize(int *count, char ***words) {
 
 int LLVMFuzzerTestOneInput(const uint8_t *bytes, size_t len) {
     script it = {bytes, bytes + len};
-    bool is_drained = next(&it) % 4 == 0;
+    uint8_t first = next(&it);
+    bool is_drained = first % 4 == 0;
+    the_proxy.settings.split_transactions = first % 8 > 3;
     is_wild = is_holding = is_down[0] = is_down[1] = false;
     asked = answered = 0;
     boundary = 8192;

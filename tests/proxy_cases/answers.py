@@ -17,7 +17,7 @@ def try_own():
     client = Client()
     found = [
         client.ask("PING"), client.ask("PING", "x"), client.ask("ECHO", "hello"), client.ask("SELECT", "0"),
-        client.ask("SELECT")[:4], client.ask("HELLO", "3")[:8], client.ask("HELLO", "2")[4:6],
+        client.ask("SELECT")[:4], client.ask("HELLO", "4")[:8], client.ask("HELLO", "2")[4:6],
         client.ask("CLIENT", "SETNAME", "me"), client.ask("CLIENT", "GETNAME"), b"maps:" in client.ask("INFO"),
         len(client.ask("COMMAND")) > 100, client.ask("AUTH", "x")[:4], client.ask("QUIT"),
     ]  # fmt: skip
@@ -59,7 +59,7 @@ def try_node_user():
     finally:
         set_password("", "secret")
     print(found)
-    return found[0] == "+OK" and found[3:] == [[b"message", b"news", b"x"], [], [b"2", b"1"]]
+    return found[0] == "+OK" and found[3:] == [[b"message", b"news", b"x"], None, [b"2", b"1"]]
 
 
 def try_settings():
@@ -283,22 +283,6 @@ def try_subscription_storm():
     publisher.join()
     print(dict(found))
     return found.keys() == {"right", "in turn"} and found["right"] == 5 * 30 * 102
-
-
-def try_keys_told():
-    """Channels on which each node tells of its own keys are refused. Others are not, nor are patterns for all."""
-    client, subscriber = Client(), Client()
-    found = [
-        client.ask(*it.split())[:40]
-        for it in ("PSUBSCRIBE __keyspace@0__:*", "SUBSCRIBE news __keyevent@0__:del", "PSUBSCRIBE __key*", "psubscribe __keyevent@*__:expired")
-    ]
-    subscriber.ask("SUBSCRIBE", "news")
-    found.append(subscriber.ask("SUBSCRIBE", "__keyspace@0__:foo")[:40])
-    client.ask("PUBLISH", "news", "x")
-    rest = [subscriber.reply(), client.ask("SET", "foo", "1"), client.ask("PSUBSCRIBE", "*"), client.ask("SUBSCRIBE", "_key", "key")[2]]
-    print(found, rest)
-    wanted = [[b"message", b"news", b"x"], "+OK", [b"psubscribe", b"*", 1], 2]
-    return found == ["-ERR the proxy does not take channels wh"] * 5 and rest == wanted
 
 
 def try_selected():

@@ -12,6 +12,12 @@ FIGURES = PORT + 9
 
 
 def raw(port=PROXY):
+    """A connection to a port, or to a path."""
+    if isinstance(port, str):
+        connection = socket.socket(socket.AF_UNIX)
+        connection.settimeout(30)
+        connection.connect(port)
+        return connection
     return socket.create_connection(("127.0.0.1", port), timeout=30)
 
 

@@ -87,8 +87,12 @@ class Client:
         mark, rest = line[:1], line[1:]
         if mark == b"$":
             return None if rest == b"-1" else self.lines.read(int(rest) + 2)[:-2]
-        if mark == b"*":
-            return [self.reply() for _ in range(int(rest))]
+        if mark == b"%":
+            return {self.reply(): self.reply() for _ in range(int(rest))}
+        if mark in (b"_", b","):
+            return None if mark == b"_" else float(rest)
+        if mark in (b"*", b">", b"~"):
+            return None if rest == b"-1" else [self.reply() for _ in range(int(rest))]
         return int(rest) if mark == b":" else line.decode()
 
 
@@ -211,7 +215,7 @@ def try_lost():
 
 
 NOT_TAKEN = [
-    "REPLCONF ACK 0", "CLIENT REPLY OFF", "SSUBSCRIBE foo", "PSYNC ? -1", "WAIT 1 0", "SCAN 0", "MONITOR", "foo",
+    "REPLCONF ACK 0", "CLIENT REPLY OFF", "SSUBSCRIBE foo", "PSYNC ? -1", "WAIT 1 0", "MONITOR", "foo",
 ]  # fmt: skip
 
 

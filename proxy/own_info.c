@@ -1,0 +1,138 @@
+#include "own.h"
+
+#include "node.h"
+#include "request.h"
+
+#include <fnmatch.h>
+#include <stdio.h>
+#include <string.h>
+#include <unistd.h>
+
+enum { EVERY = 10 * SECOND };
+
+/* Fields of a node's INFO that clients ask for, and what they are until a node has said so. */
+static const struct field {
+    const char *name, *first;
+} fields[NODE_FIELDS] = {
+    [NODE_VERSION] = {"redis_version:", "7.0.0"},
+    [NODE_MAXMEMORY] = {"maxmemory:", "0"},
+    [NODE_POLICY] = {"maxmemory_policy:", "noeviction"},
+};
+
+const char *info_field(const worker *worker, node_field field) {
+    const char *found = worker->fields[field];
+    return found[0] != 0 ? found : fields[field].first;
+}
+
+void info_ask(node *node) {
+    static const char question[] = "*1\r\n$4\r\nINFO\r\n";
+    worker *worker = node->worker;
+    if (worker->now < worker->info_at)
+        return;
+    worker->info_at = worker->now + EVERY;
+    node_ask(node, question, sizeof question - 1, (waiter){.waits = WAITS_INFO});
+}
+
+void info_reply(worker *worker, const uint8_t *reply, size_t len) {
+    for (size_t field = 0; field < NODE_FIELDS; field++) {
+        const char *name = fields[field].name, *all_end = (const char *)reply + len;
+        const char *at = memmem(reply, len, name, strlen(name));
+        const char *value = at == NULL ? NULL : at + strlen(name);
+        const char *end = at == NULL ? NULL : memchr(value, '\r', (size_t)(all_end - value));
+        if (end != NULL)
+            snprintf(worker->fields[field], FIELD_ROOM, "%.*s", (int)(end - value), value);
+    }
+}
+
+/* Writes all sections. Each begins with #. */
+static void put_all(const worker *worker, buffer *out) {
+    const settings *set = &the_proxy.settings;
+    unsigned long long uptime = (clock_now() - the_proxy.start) / SECOND, used = stats_count(COUNT_MEMORY);
+    buffer_print(out, "# Server\r\nredis_version:%s\r\nredis_mode:standalone\r\nproxy:slotroute %s\r\n",
+                 info_field(worker, NODE_VERSION), SLOTROUTE_VERSION);
+    buffer_print(out,
+                 "process_id:%d\r\nuptime_in_seconds:%llu\r\nuptime_in_days:%llu\r\nthreads:%llu\r\n\r\n",
+                 (int)getpid(), uptime, uptime / 86400, (unsigned long long)set->threads);
+    buffer_print(out, "# Clients\r\nconnected_clients:%llu\r\nmaxclients:%llu\r\n\r\n",
+                 (unsigned long long)stats_count(COUNT_CLIENTS_NOW), (unsigned long long)set->max_clients);
+    buffer_print(out, "# Memory\r\nused_memory:%llu\r\nused_memory_human:%.2fM\r\n", used,
+                 (double)used / (1 << 20));
+    buffer_print(out, "maxmemory:%s\r\nmaxmemory_policy:%s\r\n\r\n", info_field(worker, NODE_MAXMEMORY),
+                 info_field(worker, NODE_POLICY));
+    buffer_text(out, "# Persistence\r\nloading:0\r\n\r\n");
+    stats_info(out);
+    buffer_text(out, "\r\n# Replication\r\nrole:master\r\nconnected_slaves:0\r\n\r\n"
+                     "# Cluster\r\ncluster_enabled:0\r\n");
+}
+
+/* Whether INFO names a section, or all. */
+static bool is_wanted(const line *line, word name) {
+    bool is_named = line->count == 1;
+    for (size_t at = 1; at < line->count && at < MOST_WORDS; at++) {
+        word it = line->words[at];
+        is_named |= word_is(it, "default") || word_is(it, "all") || word_is(it, "everything") ||
+                    (it.len == name.len && strncasecmp(it.text, name.text, name.len) == 0);
+    }
+    return is_named;
+}
+
+void own_info(client *client, const line *line) {
+    buffer all = {0}, out = {0};
+    put_all(client->worker, &all);
+    while (buffer_len(&all) > 0) {
+        const char *text = (const char *)buffer_at(&all);
+        const char *next = memmem(text + 1, buffer_len(&all) - 1, "\r\n# ", 4);
+        size_t len = next == NULL ? buffer_len(&all) : (size_t)(next + 2 - text);
+        if (is_wanted(line, (word){text + 2, strcspn(text + 2, "\r,")}))
+            buffer_put(&out, text, len);
+        buffer_drop(&all, len);
+    }
+    own_bulk(client, (const char *)buffer_at(&out), buffer_len(&out));
+    buffer_free(&all);
+    buffer_free(&out);
+}
+
+enum { PARAMETERS = 6 };
+
+/* The parameters that the proxy knows, with their values. */
+static void put_parameters(const worker *worker, char (*names)[FIELD_ROOM], char (*values)[FIELD_ROOM]) {
+    static const char *const all[PARAMETERS] = {"databases",          "timeout",   "maxclients",
+                                                "proto-max-bulk-len", "maxmemory", "maxmemory-policy"};
+    const settings *set = &the_proxy.settings;
+    for (size_t at = 0; at < PARAMETERS; at++)
+        snprintf(names[at], FIELD_ROOM, "%s", all[at]);
+    snprintf(values[0], FIELD_ROOM, "1");
+    snprintf(values[1], FIELD_ROOM, "0");
+    snprintf(values[2], FIELD_ROOM, "%llu", (unsigned long long)set->max_clients);
+    snprintf(values[3], FIELD_ROOM, "%llu", (unsigned long long)set->max_message);
+    snprintf(values[4], FIELD_ROOM, "%s", info_field(worker, NODE_MAXMEMORY));
+    snprintf(values[5], FIELD_ROOM, "%s", info_field(worker, NODE_POLICY));
+}
+
+void own_config(client *client, const line *line) {
+    char names[PARAMETERS][FIELD_ROOM], values[PARAMETERS][FIELD_ROOM], pattern[FIELD_ROOM];
+    buffer found = {0}, out = {0};
+    size_t count = 0;
+    if (line->count < 3 || line->count > MOST_WORDS || !word_is(line->words[1], "GET")) {
+        request_refuse(client, "the proxy does not take this: of CONFIG it takes GET, for what it knows");
+        return;
+    }
+    put_parameters(client->worker, names, values);
+    for (size_t word = 2; word < line->count; word++) {
+        size_t len = line->words[word].len;
+        snprintf(pattern, FIELD_ROOM, "%.*s", len < FIELD_ROOM ? (int)len : 0, line->words[word].text);
+        for (size_t at = 0; at < PARAMETERS; at++) {
+            if (fnmatch(pattern, names[at], FNM_CASEFOLD) != 0)
+                continue;
+            buffer_print(&found, "$%zu\r\n%s\r\n$%zu\r\n%s\r\n", strlen(names[at]), names[at],
+                         strlen(values[at]), values[at]);
+            names[at][0] = 0; /* it is told once */
+            count++;
+        }
+    }
+    buffer_print(&out, client->is_three ? "%%%zu\r\n" : "*%zu\r\n", client->is_three ? count : 2 * count);
+    buffer_put(&out, buffer_at(&found), buffer_len(&found));
+    request_answer_own(client, (const char *)buffer_at(&out), buffer_len(&out));
+    buffer_free(&found);
+    buffer_free(&out);
+}
