@@ -113,8 +113,8 @@ void part_fail(request *it, uint32_t at, const char *text) {
 
 void part_fail_at(request *it, uint32_t at, const node *node, const char *why, bool was_sent) {
     char text[HOST_ROOM + 256];
-    snprintf(text, sizeof text, "ERR node %s:%u: %s; %s %s", node->host, node->port, why,
-             it->parts > 1 ? "its part of the command" : "the command",
+    snprintf(text, sizeof text, "%s node %s:%u: %s; %s %s", was_sent ? "UNCERTAIN" : "ERR", node->host,
+             node->port, why, it->parts > 1 ? "its part of the command" : "the command",
              was_sent ? "may have taken effect" : "did not take effect");
     if (was_sent)
         figure_add(&it->client->worker->stats.counts[COUNT_UNKNOWN_END], 1);
