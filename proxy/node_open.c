@@ -32,13 +32,11 @@ void node_open(node *it) {
 }
 
 /* Sends the password. Nothing else is sent before its reply. */
-static void log_in(node *it) {
-    const settings *set = &the_proxy.settings;
+static void log_in(node *it, const char *user, const char *password) {
     buffer words = {0};
-    buffer_print(&words,
-                 set->node_user != NULL ? "*3\r\n$4\r\nAUTH\r\n$%zu\r\n%s\r\n" : "*2\r\n$4\r\nAUTH\r\n",
-                 set->node_user != NULL ? strlen(set->node_user) : 0, set->node_user);
-    buffer_print(&words, "$%zu\r\n%s\r\n", strlen(set->node_password), set->node_password);
+    buffer_print(&words, user != NULL ? "*3\r\n$4\r\nAUTH\r\n$%zu\r\n%s\r\n" : "*2\r\n$4\r\nAUTH\r\n",
+                 user != NULL ? strlen(user) : 0, user);
+    buffer_print(&words, "$%zu\r\n%s\r\n", strlen(password), password);
     node_make_room(it);
     it->first = (it->first + it->room - 1) % it->room;
     it->queue[it->first] = (waiter){.waits = WAITS_PASSWORD};
@@ -62,14 +60,15 @@ void node_become_open(node *it) {
 }
 
 void node_finish_opening(node *it) {
+    const char *password = the_proxy.settings.node_password;
     int fault = 0;
     socklen_t len = sizeof fault;
     getsockopt(it->peer.fd, SOL_SOCKET, SO_ERROR, &fault, &len);
     it->heard = it->worker->now;
     if (fault != 0)
         node_doom(it, strerror(fault));
-    else if (the_proxy.settings.node_password != NULL)
-        log_in(it);
+    else if (password != NULL)
+        log_in(it, the_proxy.settings.node_user, password);
     else
         node_become_open(it);
 }
