@@ -121,6 +121,7 @@ static void refuse(client *it, words words, const char *why) {
     words_next(&words, &first);
     for (size_t at = 0; at < first.len && at + 1 < sizeof name; at++)
         name[at] = (char)(first.text[at] > ' ' && first.text[at] <= '~' ? first.text[at] : '?');
+    stats_refused(&it->worker->stats, name);
     snprintf(text, sizeof text, "the proxy does not take '%s': %s", name, why);
     request_refuse(it, text);
 }
@@ -139,7 +140,8 @@ static const char *refusal_of_state(const client *it, command_kind kind) {
 
 /* Takes one whole request. False if it has to wait for the earlier ones. */
 static bool take(client *it, const uint8_t *bytes, size_t len) {
-    command_kind kind = command_of(bytes, len);
+    size_t number;
+    command_kind kind = command_of(bytes, len, &number);
     words words = words_of(bytes, len);
     const char *refusal = command_refusal(kind), *refusal_now = refusal_of_state(it, kind);
     bool is_taken =
@@ -164,7 +166,7 @@ static bool take(client *it, const uint8_t *bytes, size_t len) {
     else
         own_answer(it, kind, bytes, len);
     if (has_begun)
-        figure_add(&it->worker->stats.counts[COUNT_COMMANDS], 1);
+        stats_command(&it->worker->stats, number);
     return has_begun;
 }
 

@@ -1,6 +1,7 @@
 #include "listener.h"
 
 #include "client.h"
+#include "figures.h"
 #include "peer.h"
 
 #include <errno.h>
@@ -127,14 +128,57 @@ void listener_given(worker *worker) {
         client_begin(worker, fd);
 }
 
+static void write_health(const worker *worker, buffer *out) {
+    (void)worker;
+    buffer_text(out, "ok\n");
+}
+
+static void write_readiness(const worker *worker, buffer *out) {
+    buffer_print(out, "%zu of %d slots have a node\n", worker->map.slots, SLOTROUTE_SLOTS);
+}
+
+/* What can be read at the port of figures. */
+static const struct page {
+    const char *path, *type;
+    void (*write)(const worker *worker, buffer *out);
+} pages[] = {
+    {"/metrics", "text/plain; version=0.0.4", figures_write},
+    {"/healthz", "text/plain", write_health},
+    {"/readyz", "text/plain", write_readiness},
+};
+
+/* The page that a request asks for, or NULL. A head is asked for in the same way. */
+static const struct page *page_of(const char *request, bool *is_head) {
+    *is_head = strncmp(request, "HEAD ", 5) == 0;
+    const char *path = request + (*is_head ? 5 : 4);
+    if (!*is_head && strncmp(request, "GET ", 4) != 0)
+        return NULL;
+    for (size_t at = 0; at < sizeof pages / sizeof *pages; at++)
+        if (strcspn(path, " ?\r\n") == strlen(pages[at].path) &&
+            strncmp(path, pages[at].path, strlen(pages[at].path)) == 0)
+            return &pages[at];
+    return NULL;
+}
+
 /* Answers once the request has come whole. */
-static void answer(reader *it) {
+static void answer(const worker *worker, reader *it) {
+    bool is_head = false;
     buffer text = {0};
-    stats_prometheus(&text);
+    buffer_put(&it->in, "", 1);
+    const struct page *page = page_of((const char *)buffer_at(&it->in), &is_head);
+    bool is_bad = page != NULL && page->write == write_readiness && !figures_is_ready(worker);
+    if (page == NULL)
+        buffer_text(&text, "no such page\n");
+    else
+        page->write(worker, &text);
     buffer_print(&it->out,
-                 "HTTP/1.0 200 OK\r\nContent-Type: text/plain; version=0.0.4\r\nContent-Length: %zu\r\n\r\n",
-                 buffer_len(&text));
-    buffer_put(&it->out, buffer_at(&text), buffer_len(&text));
+                 "HTTP/1.0 %s\r\nContent-Type: %s\r\nContent-Length: %zu\r\nCache-Control: no-store\r\n\r\n",
+                 page == NULL ? "404 Not Found"
+                 : is_bad     ? "503 Service Unavailable"
+                              : "200 OK",
+                 page == NULL ? "text/plain" : page->type, buffer_len(&text));
+    if (!is_head)
+        buffer_put(&it->out, buffer_at(&text), buffer_len(&text));
     buffer_free(&text);
 }
 
@@ -151,7 +195,7 @@ void reader_event(worker *worker, peer *peer, uint32_t events) {
         }
         if (buffer_len(&it->in) >= 4 &&
             memmem(buffer_at(&it->in), buffer_len(&it->in), "\r\n\r\n", 4) != NULL)
-            answer(it);
+            answer(worker, it);
     }
     bool has_answer = buffer_len(&it->out) > 0;
     if ((events & (EPOLLERR | EPOLLHUP)) != 0 || peer_write(peer, &it->out) < 0 ||

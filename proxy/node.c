@@ -37,7 +37,8 @@ node *node_at(worker *worker, const char *host, uint16_t port) {
     node *it = node_new(worker, host, port);
     it->is_private = false;
     it->number = (uint16_t)worker->node_count;
-    worker->nodes[worker->node_count++] = it;
+    worker->nodes[it->number] = it;
+    worker->node_count++; /* from now on other threads may read its figures */
     return it;
 }
 
@@ -85,6 +86,7 @@ void node_ask(node *it, const void *bytes, size_t len, waiter waiter) {
     node_send(it, bytes, len);
     it->queue[(it->first + it->count++) % it->room] = waiter;
     it->asked++;
+    figure_add(&it->figures[NODE_REQUESTS], 1);
 }
 
 /* Gives a reply to who waits for it. */
@@ -194,6 +196,7 @@ static void lose(node *it) {
         close(it->peer.fd);
     }
     figure_add(&it->worker->stats.counts[COUNT_NODES_LOST], 1);
+    figure_add(&it->figures[NODE_LOST], 1);
     buffer_free(&it->in);
     buffer_free(&it->out);
     it->peer = (peer){.kind = PEER_NODE, .fd = -1};

@@ -57,7 +57,8 @@ static void unqueue(client *client, size_t reply_len) {
     client->kept -= it->kept;
     client->is_alone = false;
     client->reply_len = (7 * client->reply_len + reply_len) / 8;
-    stats_took(&client->worker->stats, client->worker->now - it->start);
+    if (!it->is_private) /* those wait for as long as others like */
+        stats_took(&client->worker->stats, client->worker->now - it->start);
     request_free(it);
 }
 
@@ -143,6 +144,7 @@ void part_reply(request *it, uint32_t at, node *from, const uint8_t *reply, size
     } else if (it->queued > 0 ? !transaction_follow(it, from, reply, len)
                               : !redirect_follow(it, at, from, reply, len)) {
         figure_add(&from->worker->stats.counts[COUNT_NODE_ERRORS], 1);
+        figure_add(&from->figures[NODE_ERRORS], 1);
         part_finish(it, at, reply, len);
     }
     if (client != NULL && client->held > 0)

@@ -134,6 +134,7 @@ struct node {
     client *client; /* who has it alone, or NULL */
     bool is_dirty, is_failing, is_in_map, is_private;
     bool is_new; /* what it owes was asked for since the last write */
+    _Atomic uint64_t figures[NODE_FIGURES];
 };
 
 /* Where slots are. */
@@ -146,6 +147,7 @@ typedef struct topology {
     size_t primary_count, all_count, slots, next_any, next_asked, tries;
     bool has_map, is_wanted, is_asked;
     uint64_t number, asked_at, next_at; /* of the map that is asked for */
+    uint64_t read_at;                   /* when the last one was read */
     char why[192];                      /* why there is no map */
 } topology;
 
@@ -156,7 +158,7 @@ struct worker {
     uint64_t now, next_tick;
     topology map;
     node *nodes[MOST_NODES];
-    size_t node_count;
+    _Atomic size_t node_count; /* other threads read the figures of these nodes */
     client *clients, *dirty_clients, *troubled, *dead;
     node *dirty_nodes, *left; /* left: given up by the clients that had them alone */
     bool is_draining, is_pressed;

@@ -199,6 +199,7 @@ void topology_reply(node *from, uint64_t number, const uint8_t *reply, size_t le
     for (size_t at = 0; at < map->primary_count; at++)
         is_failing |= map->primaries[at]->is_failing && worker->now - map->primaries[at]->failed < RECENT;
     figure_add(&worker->stats.counts[COUNT_MAPS], 1);
+    map->read_at = worker->now;
     map->is_asked = false;
     map->is_wanted = is_failing || map->slots < SLOTROUTE_SLOTS;
     map->tries = 0;

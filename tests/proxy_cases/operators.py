@@ -1,4 +1,4 @@
-"""What operators do with the proxy: settings, signals, the log, and secrets."""
+"""What operators do with the proxy: settings, signals, the log, secrets and figures."""
 
 import os
 import re
@@ -11,7 +11,10 @@ import threading
 import time
 from contextlib import contextmanager, suppress
 
-from shared import Client, FAKE, LeftOut, OTHER, PORT, PROGRAM, ROOT, is_open, proxy, until
+from outside import FIGURES, figures, page
+from shared import Client, FAKE, LeftOut, OTHER, PORT, PROGRAM, ROOT, is_open, port_of, proxy, until
+
+OTHER_FIGURES = FIGURES + 1
 
 
 def read(path):
@@ -134,12 +137,14 @@ def try_secrets():
 
 
 class Leaving(socketserver.StreamRequestHandler):
-    """A node that has all slots, and closes the connection in place of a reply."""
+    """A node that has the slots up to `last`, and closes the connection in place of a reply to any other question."""
+
+    last = 16383
 
     def handle(self):
-        slots = b"*1\r\n*3\r\n:0\r\n:16383\r\n*2\r\n$9\r\n127.0.0.1\r\n:%d\r\n" % FAKE
+        slots = b"*1\r\n*3\r\n:0\r\n:%d\r\n*2\r\n$9\r\n127.0.0.1\r\n:%d\r\n"
         while (line := self.rfile.readline()) and b"CLUSTER" in [(self.rfile.readline(), self.rfile.readline())[1][:-2] for _ in range(int(line[1:]))]:
-            self.wfile.write(slots)
+            self.wfile.write(slots % (Leaving.last, FAKE))
 
 
 def try_uncertain():
@@ -154,3 +159,97 @@ def try_uncertain():
     print(found, cli)
     is_sure = all(it.startswith("-UNCERTAIN node 127.0.0.1:") and it.endswith("may have taken effect") for it in found)
     return is_sure and cli.stdout.startswith("UNCERTAIN node")
+
+
+def try_counts():
+    """There are figures of each node, of each command, and of each refused name. Clients cannot make up more than some."""
+    with proxy(OTHER, PORT, "--threads", "2", "--metrics", f"127.0.0.1:{OTHER_FIGURES}"):
+        client = Client(OTHER)
+        client.ask_all([["SET", "foo", "1"], ["GET", "foo"], ["get", "foo"], ["LPUSH", "foo", "1"], ["SCRIPT", "EXISTS", "x"], ["DEL", "foo"]])
+        client.ask_all([["MONITOR"], ["monitor"], ['A"\\\n{}'], *([f"NAME{it}"] for it in range(500))])
+        Client(OTHER).ask("MONITOR")  # at the other thread
+        time.sleep(0.1)
+        found = figures(OTHER_FIGURES)
+    node = f'{{node="127.0.0.1:{port_of("foo")}"}}'
+    of_node = {it: found[f"{it}{node}"] for it in ("node_errors_total", "node_in_flight", "node_up", "node_open_connections", "node_connections_ended_total")}
+    commands = {it: found.get(f'command_calls_total{{command="{it}"}}') for it in ("SET", "GET", "LPUSH", "SCRIPT|EXISTS", "MONITOR", "(unknown)")}
+    refused = {it: value for it, value in found.items() if it.startswith("refused_total")}
+    gauges = {it: found[it] for it in ("nodes", "nodes_up", "slots_served", "map_age_seconds")}
+    print(of_node, commands, len(refused), gauges)
+    is_right = refused['refused_total{command="MONITOR"}'] == 3 and sum(refused.values()) == 504 and 0 < len(refused) <= 128
+    is_right &= refused['refused_total{command="A?????"}'] == 1 and refused['refused_total{command="(others)"}'] > 300
+    is_right &= commands == {"SET": 1, "GET": 2, "LPUSH": 1, "SCRIPT|EXISTS": 1, "MONITOR": 3, "(unknown)": 501}
+    is_right &= 3 <= gauges["nodes_up"] <= gauges["nodes"] <= 6 and gauges["slots_served"] == 16384 and gauges["map_age_seconds"] < 60
+    return is_right and of_node["node_errors_total"] == 1 and of_node["node_in_flight"] == 0 and of_node["node_up"] == 1 and of_node["node_open_connections"] >= 1
+
+
+LABELS = r'\{(?:[a-z_]+="(?:[^"\\\n]|\\["\\n])*",?)*\}'
+SAMPLE = re.compile(rf"([a-z_]+?)(_bucket|_sum|_count)?({LABELS})? ([-+.e\d]+|\+Inf)")
+
+
+def faults_of(text):
+    """What is wrong with a text for Prometheus."""
+    kinds, seen, last = {}, set(), None
+    for line in text.splitlines():
+        if line.startswith("#"):
+            mark, word, name, rest = line.split(" ", 3)
+            if word == "TYPE":
+                if name in kinds or last != name:
+                    yield f"{line}: twice, or without HELP"
+                kinds[name] = rest
+            last = name
+            continue
+        match = SAMPLE.fullmatch(line)
+        name = match and (match[1] if kinds.get(match[1]) == "histogram" else match[1] + (match[2] or ""))
+        if not match or name != last or kinds.get(name) not in ("counter", "gauge", "histogram"):
+            yield f"{line}: not a figure of {last}"
+        elif line.rpartition(" ")[0] in seen or (kinds[name] == "counter") != name.endswith("_total"):
+            yield f"{line}: twice, or a wrong name"
+        seen.add(line.rpartition(" ")[0])
+
+
+def try_prometheus():
+    """The figures are a text that Prometheus reads, by a strict reader and by promtool, if it is there."""
+    client = Client()
+    client.ask_all([["SET", "foo", "1"], ["MGET", "foo", "bar"], ["MONITOR"], ["GET"]])
+    status, kind, text = page("/metrics")
+    faults = [*faults_of(text), *([] if text.endswith("\n") else ["no line end"])]
+    below = [float(it) for it in re.findall(r'seconds_bucket\{le="\S+"\} (\S+)', text)]
+    count = float(re.search(r"seconds_count (\S+)", text)[1])
+    tool = shutil.which("promtool")
+    said = subprocess.run([tool, "check", "metrics"], input=text, capture_output=True, text=True) if tool else None
+    print(status, kind, len(text.splitlines()), faults, said and said.stderr)
+    is_steady = below == sorted(below) and below[-1] == count
+    return status == 200 and kind == "text/plain; version=0.0.4" and not faults and is_steady and (said is None or said.returncode == 0)
+
+
+def try_waiting():
+    """A command that waits is counted, and its time is not among those of the others."""
+    before, client = figures(), Client()
+    found = [client.ask("BLPOP", "{foo}none", "0.3"), client.ask("XREAD", "BLOCK", "300", "STREAMS", "{foo}no", "$")]
+    after = figures()
+    print(found, after["seconds_count"] - before["seconds_count"], after["commands_total"] - before["commands_total"])
+    return found == [[], []] and after["seconds_count"] == before["seconds_count"] and after["commands_total"] == before["commands_total"] + 2
+
+
+def try_ready():
+    """/healthz is well while the proxy runs, and /readyz while each slot has a node."""
+    socketserver.ThreadingTCPServer.allow_reuse_address = socketserver.ThreadingTCPServer.daemon_threads = True
+    with socketserver.ThreadingTCPServer(("127.0.0.1", FAKE), Leaving) as node:
+        threading.Thread(target=node.serve_forever).start()
+        with proxy(OTHER, FAKE, "--metrics", f"127.0.0.1:{OTHER_FIGURES}") as (process, _, _):
+            found = [page(it, OTHER_FIGURES)[::2] for it in ("/healthz", "/readyz?x=1", "/readyz/", "/none")]
+            Leaving.last = 16000
+            Client(OTHER).ask("GET", "foo")  # the connection ends, so the map is read
+            gone = until(20, lambda: page("/readyz", OTHER_FIGURES)[0] == 503)
+            found += [page(it, OTHER_FIGURES)[::2] for it in ("/healthz", "/readyz")] + [page("/readyz", OTHER_FIGURES, "HEAD")[::2]]
+            served = figures(OTHER_FIGURES)["slots_served"]
+            Leaving.last = 16383
+            Client(OTHER).ask("GET", "foo")
+            back = until(20, lambda: page("/readyz", OTHER_FIGURES)[0] == 200)
+            head = page("/metrics", OTHER_FIGURES, "HEAD")[::2], page("/metrics", OTHER_FIGURES, "POST")[0]
+        node.shutdown()
+    print(found, gone, served, back, head)
+    first = [(200, "ok\n"), (200, "16384 of 16384 slots have a node\n"), (404, "no such page\n"), (404, "no such page\n")]
+    then = [(200, "ok\n"), (503, "16001 of 16384 slots have a node\n"), (503, "")]
+    return found == first + then and served == 16001 and gone is not None and back is not None and head == ((200, ""), 404)
