@@ -12,6 +12,8 @@ void figures_tick(node *it) {
     figure_set(&it->figures[NODE_OPEN_NOW], it->state == NODE_OPEN);
     figure_set(&it->figures[NODE_DOWN], it->is_failing);
     figure_set(&it->figures[NODE_IN_MAP], it->is_in_map);
+    if (it->worker->number == 0)
+        figure_set(&it->figures[NODE_NUMBER], it->number);
 }
 
 bool figures_is_ready(const worker *it) { return it->map.has_map && it->map.slots == SLOTROUTE_SLOTS; }
@@ -65,6 +67,14 @@ static void add_nodes(const worker *from, named_list *list) {
     }
 }
 
+static void add_commands(const worker *from, named_list *list) {
+    for (size_t at = 0; at <= COMMANDS; at++) {
+        uint64_t count = figure_read(&from->stats.commands[at]);
+        if (count > 0)
+            add(list, at == COMMANDS ? "(unknown)" : command_name(at))->figures[0] = count;
+    }
+}
+
 static void add_refused(const worker *from, named_list *list) {
     size_t known = from->stats.refused_count;
     for (size_t at = 0; at < known && list->count < ROOM; at++) {
@@ -86,6 +96,8 @@ static named_list list_of(void (*add_all)(const worker *from, named_list *list))
 
 named_list figures_of_nodes(void) { return list_of(add_nodes); }
 
+named_list figures_of_commands(void) { return list_of(add_commands); }
+
 named_list figures_of_refused(void) { return list_of(add_refused); }
 
 void named_free(named_list *it) { memory_give(it->all, ROOM * sizeof *it->all); }
@@ -102,6 +114,7 @@ static void write_of_nodes(const named_list *nodes, buffer *out) {
         {"node_connections_ended_total", "counter", "shared connections to a node that ended", NODE_LOST},
         {"node_in_flight", "gauge", "commands that a node has not answered", NODE_IN_FLIGHT},
         {"node_open_connections", "gauge", "shared connections to a node", NODE_OPEN_NOW},
+        {"node_slots", "gauge", "slots of a node in the map", NODE_SLOTS},
         {"node_up", "gauge", "0 if the last connection of a thread to a node failed", NODE_DOWN},
     };
     for (size_t row = 0; row < sizeof rows / sizeof *rows; row++) {
@@ -114,20 +127,12 @@ static void write_of_nodes(const named_list *nodes, buffer *out) {
     }
 }
 
-static void write_commands(buffer *out) {
-    stats_head(out, "command_calls_total", "counter", "commands of clients by their name");
-    for (size_t at = 0; at <= COMMANDS; at++) {
-        uint64_t count = stats_command_sum(at);
-        if (count > 0)
-            buffer_print(out, "slotroute_proxy_command_calls_total{command=\"%s\"} %llu\n",
-                         at == COMMANDS ? "(unknown)" : command_name(at), (unsigned long long)count);
-    }
-    named_list refused = figures_of_refused();
-    stats_head(out, "refused_total", "counter", "commands that the proxy does not take, by their name");
-    for (size_t at = 0; at < refused.count; at++)
-        buffer_print(out, "slotroute_proxy_refused_total{command=\"%s\"} %llu\n", refused.all[at].name,
-                     (unsigned long long)refused.all[at].figures[0]);
-    named_free(&refused);
+static void write_commands(named_list list, const char *name, const char *says, buffer *out) {
+    stats_head(out, name, "counter", says);
+    for (size_t at = 0; at < list.count; at++)
+        buffer_print(out, "slotroute_proxy_%s{command=\"%s\"} %llu\n", name, list.all[at].name,
+                     (unsigned long long)list.all[at].figures[0]);
+    named_free(&list);
 }
 
 static void write_gauge(buffer *out, const char *name, const char *says, double value) {
@@ -145,6 +150,7 @@ void figures_write(const worker *it, buffer *out) {
     write_gauge(out, "map_age_seconds", "how long ago the map was read",
                 (double)(it->now - it->map.read_at) / SECOND);
     write_of_nodes(&nodes, out);
-    write_commands(out);
+    write_commands(figures_of_commands(), "command_calls_total", "commands of clients by their name", out);
+    write_commands(figures_of_refused(), "refused_total", "commands that the proxy does not take", out);
     named_free(&nodes);
 }

@@ -4,19 +4,20 @@
 
 #include "proxy.h"
 
-/* What all threads counted of what has a name: a node of the map, or a command that was refused. */
+/* What all threads counted of what has a name: a node of the map, or a command. */
 typedef struct named {
     char name[HOST_ROOM + 8]; /* with `?` for what could not stand in a page */
     uint64_t figures[NODE_FIGURES];
 } named;
 
-/* By their names. The one figure of a refused command is its first. */
+/* By their names. The one figure of a command is its first. */
 typedef struct named_list {
     named *all;
     size_t count;
 } named_list;
 
 named_list figures_of_nodes(void);
+named_list figures_of_commands(void);
 named_list figures_of_refused(void);
 void named_free(named_list *list);
 

@@ -2,6 +2,7 @@
 
 #include "client.h"
 #include "figures.h"
+#include "page.h"
 #include "peer.h"
 
 #include <errno.h>
@@ -64,6 +65,7 @@ static void end_reader(reader *it) {
 }
 
 void listener_tick(worker *worker) {
+    page_tick(worker);
     for (size_t at = 0; at < LISTENERS && pause_until != 0 && worker->now > pause_until; at++)
         if (listeners[at].fd >= 0)
             peer_watch(worker, &listeners[at], EPOLLIN);
@@ -142,6 +144,7 @@ static const struct page {
     const char *path, *type;
     void (*write)(const worker *worker, buffer *out);
 } pages[] = {
+    {"/", "text/html; charset=utf-8", page_write},
     {"/metrics", "text/plain; version=0.0.4", figures_write},
     {"/healthz", "text/plain", write_health},
     {"/readyz", "text/plain", write_readiness},

@@ -77,10 +77,6 @@ uint64_t stats_count(counter counter) { return sum_of(offsetof(stats, counts) + 
 
 uint64_t stats_took_sum(size_t step) { return sum_of(offsetof(stats, took) + step * sizeof(uint64_t)); }
 
-uint64_t stats_command_sum(size_t number) {
-    return sum_of(offsetof(stats, commands) + number * sizeof(uint64_t));
-}
-
 void stats_info(buffer *out) {
     buffer_print(out, "# Server\r\nredis_version:7.0.0\r\nredis_mode:standalone\r\nproxy:slotroute %s\r\n",
                  SLOTROUTE_VERSION);

@@ -35,7 +35,8 @@ typedef enum counter {
 
 enum { LATENCY_STEPS = 24 }; /* step i has what took less than 2^i microseconds, the last one the rest */
 
-/* What is counted of a connection to a node that clients share. The last four are set at each tick. */
+/* What is counted of a connection to a node that clients share. Those from IN_FLIGHT on are set at each tick.
+ */
 typedef enum node_figure {
     NODE_REQUESTS,
     NODE_ERRORS, /* that clients got */
@@ -44,6 +45,8 @@ typedef enum node_figure {
     NODE_OPEN_NOW,
     NODE_DOWN, /* the last connection failed */
     NODE_IN_MAP,
+    NODE_SLOTS, /* the first thread alone sets these two */
+    NODE_NUMBER,
     NODE_FIGURES
 } node_figure;
 
@@ -87,7 +90,6 @@ void stats_refused(stats *stats, const char *name);
 /* Sums over all threads. */
 uint64_t stats_count(counter counter);
 uint64_t stats_took_sum(size_t step);
-uint64_t stats_command_sum(size_t number);
 
 /* Writes the sums as INFO does, or for Prometheus. */
 void stats_info(buffer *out);

@@ -10,6 +10,7 @@ import tempfile
 import threading
 import time
 from contextlib import contextmanager, suppress
+from html.parser import HTMLParser
 
 from outside import FIGURES, figures, page
 from shared import Client, FAKE, LeftOut, OTHER, PORT, PROGRAM, ROOT, is_open, port_of, proxy, until
@@ -143,8 +144,9 @@ class Leaving(socketserver.StreamRequestHandler):
 
     def handle(self):
         slots = b"*1\r\n*3\r\n:0\r\n:%d\r\n*2\r\n$9\r\n127.0.0.1\r\n:%d\r\n"
-        while (line := self.rfile.readline()) and b"CLUSTER" in [(self.rfile.readline(), self.rfile.readline())[1][:-2] for _ in range(int(line[1:]))]:
-            self.wfile.write(slots % (Leaving.last, FAKE))
+        with suppress(OSError):  # the proxy resets the connection
+            while (line := self.rfile.readline()) and b"CLUSTER" in [(self.rfile.readline(), self.rfile.readline())[1][:-2] for _ in range(int(line[1:]))]:
+                self.wfile.write(slots % (Leaving.last, FAKE))
 
 
 def try_uncertain():
@@ -253,3 +255,43 @@ def try_ready():
     first = [(200, "ok\n"), (200, "16384 of 16384 slots have a node\n"), (404, "no such page\n"), (404, "no such page\n")]
     then = [(200, "ok\n"), (503, "16001 of 16384 slots have a node\n"), (503, "")]
     return found == first + then and served == 16001 and gone is not None and back is not None and head == ((200, ""), 404)
+
+
+class Tags(HTMLParser):
+    """Collects the tags of a page, with their attributes."""
+
+    def __init__(self, text):
+        super().__init__()
+        self.found = []
+        self.feed(text)
+
+    def handle_starttag(self, tag, attributes):
+        self.found.append((tag, dict(attributes)))
+
+    def all(self, tag):
+        return [it for name, it in self.found if name == tag]
+
+
+def try_page():
+    """The page for people has nodes, slots, rates and refused commands. It needs no script, and nothing from elsewhere."""
+    socketserver.ThreadingTCPServer.allow_reuse_address = socketserver.ThreadingTCPServer.daemon_threads = True
+    Leaving.last = 16000
+    with socketserver.ThreadingTCPServer(("127.0.0.1", FAKE), Leaving) as node:
+        threading.Thread(target=node.serve_forever).start()
+        with proxy(OTHER, FAKE, "--metrics", f"127.0.0.1:{OTHER_FIGURES}"):
+            Client(OTHER).ask_all([["PING"], ["<b>"]])
+            time.sleep(2.2)
+            status, kind, partial = page("/", OTHER_FIGURES)
+        node.shutdown()
+    Leaving.last = 16383
+    time.sleep(1)
+    whole = page("/")[2]
+    strips = [[(int(it["x"]), int(it["width"]), it.get("class")) for it in Tags(text).all("rect")] for text in (partial, whole)]
+    names = [line for line in re.findall(r"</i>([^<]+)<td>(\w+)<td[^>]*>([\w ]+)<td>(\d+)", whole)]
+    is_plain = not Tags(whole).all("script") and "http" not in whole.replace("http-equiv", "") and "src=" not in whole and "<b>" not in partial
+    points = Tags(whole).all("polygon")[0]["points"].split()
+    print(status, kind, len(whole), strips, names, len(points))
+    is_whole = sum(it[1] for it in strips[1]) == 16384 and all(it[2] is None for it in strips[1])
+    is_partial = strips[0] == [(0, 16000, None), (16000, 384, "none")] and "Not ready" in partial and "??B?" not in partial and "?B?, refused" in partial
+    served = sum(int(it[3]) for it in names if it[1] == "primary")
+    return status == 200 and kind.startswith("text/html") and is_plain and is_whole and is_partial and served == 16384 and len(points) > 2 and "content=2" in whole
