@@ -7,6 +7,7 @@
 #include "private.h"
 #include "request.h"
 #include "subscription.h"
+#include "tls.h"
 #include "transaction.h"
 
 #include <errno.h>
@@ -33,6 +34,8 @@ void client_begin(worker *worker, int fd) {
     worker->clients = it;
     peer_set_up(fd);
     peer_watch(worker, &it->peer, EPOLLIN);
+    if (!tls_begin(&it->peer))
+        client_doom(it, "TLS could not begin");
     if (worker->is_draining)
         client_end(it);
     figure_add(&worker->stats.counts[COUNT_CLIENTS_TAKEN], 1);
@@ -69,6 +72,7 @@ static void client_close(client *it) {
     private_drop(it);
     buffer_free(&it->in);
     buffer_free(&it->out);
+    tls_free(&it->peer);
     close(it->peer.fd);
     it->peer.fd = -1;
     if (it->next != NULL)
@@ -198,7 +202,10 @@ static bool may_be_paused(const client *it) {
 }
 
 void client_event(client *it, uint32_t events) {
-    if (it->peer.fd < 0)
+    int shaken = it->peer.fd < 0 ? 0 : tls_shake(it->worker, &it->peer);
+    if (shaken < 0)
+        client_doom(it, tls_fault(&it->peer));
+    if (shaken <= 0)
         return;
     client_touch(it);
     bool has_left = (events & EPOLLRDHUP) != 0 && is_blocked(it);
@@ -245,6 +252,7 @@ static void finish(client *it) {
     } else if (it->is_ending && !it->is_shut) {
         it->is_shut = true;
         it->end_at = it->worker->now + (it->worker->is_draining ? SHORT_GOODBYE : GOODBYE);
+        tls_shut(&it->peer);
         shutdown(it->peer.fd, SHUT_WR);
     }
 }
@@ -275,6 +283,8 @@ void client_tick(client *it) {
     uint64_t limit = the_proxy.settings.client_timeout * MILLISECOND;
     if (buffer_len(&it->out) > 0 && it->worker->now - it->active_at > limit)
         client_doom(it, "it leaves its replies unread");
+    if (it->worker->now - it->active_at > SHAKING_TIME && tls_shake(it->worker, &it->peer) != 1)
+        client_doom(it, "no TLS handshake in time");
     if (it->is_shut && it->worker->now > it->end_at)
         client_doom(it, "");
     if (it->is_paused && !it->worker->is_pressed)

@@ -33,8 +33,19 @@ static bool open_one(worker *worker, peer *peer, peer_kind kind, int fd) {
     return true;
 }
 
+/* Warns if whoever reaches the proxy over a network can use the cluster. */
+static void warn_if_open(const settings *set) {
+    const char *address = set->listen;
+    bool is_near = strncmp(address, "127.", 4) == 0 || strncmp(address, "localhost:", 10) == 0 ||
+                   strncmp(address, "[::1]", 5) == 0;
+    if (!is_near && set->password == NULL && !(set->tls && set->tls_auth_clients))
+        warn("%s is open to all who reach it: there is no password, and no client needs a certificate",
+             address);
+}
+
 bool listeners_open(worker *worker) {
     const settings *set = &the_proxy.settings;
+    warn_if_open(set);
     for (size_t at = 0; at < READERS; at++)
         readers[at].peer = (peer){.kind = PEER_READER, .fd = -1};
     bool is_open = open_one(worker, &listeners[0], PEER_LISTENER, listen_at(set->listen));

@@ -1,6 +1,7 @@
 /* A proxy before a Redis cluster: clients speak to it as to one server. README.md says what it does. */
 #include "commands.h"
 #include "listener.h"
+#include "tls.h"
 #include "worker.h"
 
 #include <errno.h>
@@ -102,6 +103,7 @@ static void *wait_for_signals(void *given) {
         } else if (signal == SIGHUP) {
             open_log();
             settings_renew(&the_proxy.settings, word_count, all_words);
+            tls_start();
             raise_limits();
         } else {
             say("signal %d: it does nothing", signal);
@@ -156,7 +158,7 @@ int main(int count, char **words) {
     word_count = count;
     all_words = words;
     commands_start();
-    if (!settings_read(&the_proxy.settings, count, words) || !open_log())
+    if (!settings_read(&the_proxy.settings, count, words) || !open_log() || !tls_start())
         return 2;
     block_signals(&signals);
     raise_limits();

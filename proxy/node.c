@@ -6,6 +6,7 @@
 #include "private.h"
 #include "request.h"
 #include "subscription.h"
+#include "tls.h"
 #include "topology.h"
 #include "transaction.h"
 
@@ -151,8 +152,7 @@ void node_event(node *it, uint32_t events) {
     if (it->lost != NULL || it->state == NODE_CLOSED)
         return;
     if (it->state == NODE_OPENING) {
-        if (events & (EPOLLOUT | EPOLLERR | EPOLLHUP))
-            node_finish_opening(it);
+        node_finish_opening(it);
         return;
     }
     if (events & EPOLLOUT)
@@ -160,7 +160,7 @@ void node_event(node *it, uint32_t events) {
     if ((events & (EPOLLIN | EPOLLERR | EPOLLHUP)) == 0)
         return;
     arrived found = peer_read(it->worker, &it->peer, &it->in);
-    if (found.is_end || found.is_broken) {
+    if ((found.is_end && found.fresh == 0) || found.is_broken) { /* what came before the end counts */
         node_doom(it, found.is_end ? "the node closed the connection" : strerror(errno));
         return;
     }
@@ -193,6 +193,7 @@ static void lose(node *it) {
         report_loss(it);
     if (it->peer.fd >= 0) {
         setsockopt(it->peer.fd, SOL_SOCKET, SO_LINGER, &reset, sizeof reset);
+        tls_free(&it->peer);
         close(it->peer.fd);
     }
     figure_add(&it->worker->stats.counts[COUNT_NODES_LOST], 1);
@@ -260,6 +261,7 @@ void node_tick(node *it) {
 }
 
 void node_end(node *it) {
+    tls_free(&it->peer);
     if (it->peer.fd >= 0)
         close(it->peer.fd);
     for (size_t at = 0; at < it->count; at++) { /* what waits is of clients that have gone */

@@ -1,6 +1,7 @@
 #include "node.h"
 
 #include "peer.h"
+#include "tls.h"
 
 #include <errno.h>
 #include <netdb.h>
@@ -43,7 +44,7 @@ static void log_in(node *it, const char *user, const char *password) {
     it->count++;
     it->asked++;
     it->state = NODE_LOGIN;
-    if (send(it->peer.fd, buffer_at(&words), buffer_len(&words), MSG_NOSIGNAL) != (ssize_t)buffer_len(&words))
+    if (peer_write(&it->peer, &words) < 0 || buffer_len(&words) > 0)
         node_doom(it, "the password could not be sent");
     buffer_free(&words);
 }
@@ -59,14 +60,28 @@ void node_become_open(node *it) {
     node_touch(it);
 }
 
+static void fail_to_shake(node *it) {
+    char text[100];
+    const char *why = it->peer.tls == NULL ? "" : tls_fault(&it->peer);
+    snprintf(text, sizeof text, "TLS: %s", *why != 0 ? why : "the handshake was not finished");
+    node_doom(it, text);
+}
+
 void node_finish_opening(node *it) {
     const char *password = the_proxy.settings.node_password;
     int fault = 0;
     socklen_t len = sizeof fault;
     getsockopt(it->peer.fd, SOL_SOCKET, SO_ERROR, &fault, &len);
-    it->heard = it->worker->now;
+    if (it->peer.tls == NULL)
+        it->heard = it->worker->now;
+    bool is_right = fault == 0 && (it->peer.tls != NULL || tls_begin(&it->peer));
+    int shaken = is_right ? tls_shake(it->worker, &it->peer) : -1;
     if (fault != 0)
         node_doom(it, strerror(fault));
+    else if (shaken < 0)
+        fail_to_shake(it);
+    else if (shaken == 0)
+        return;
     else if (password != NULL)
         log_in(it, the_proxy.settings.node_user, password);
     else

@@ -31,6 +31,7 @@ typedef enum peer_kind {
 typedef struct peer {
     peer_kind kind;
     int fd;
+    struct ssl_st *tls; /* NULL if it speaks without TLS */
     uint32_t events;
     bool is_watched;
 } peer;
