@@ -202,9 +202,10 @@ static bool may_be_paused(const client *it) {
 }
 
 void client_event(client *it, uint32_t events) {
-    int shaken = it->peer.fd < 0 ? 0 : tls_shake(it->worker, &it->peer);
+    const char *why = NULL;
+    int shaken = it->peer.fd < 0 ? 0 : tls_shake(it->worker, &it->peer, &why);
     if (shaken < 0)
-        client_doom(it, tls_fault(&it->peer));
+        client_doom(it, why != NULL ? why : "");
     if (shaken <= 0)
         return;
     client_touch(it);
@@ -283,7 +284,7 @@ void client_tick(client *it) {
     uint64_t limit = the_proxy.settings.client_timeout * MILLISECOND;
     if (buffer_len(&it->out) > 0 && it->worker->now - it->active_at > limit)
         client_doom(it, "it leaves its replies unread");
-    if (it->worker->now - it->active_at > SHAKING_TIME && tls_shake(it->worker, &it->peer) != 1)
+    if (it->worker->now - it->active_at > SHAKING_TIME && !tls_is_shaken(&it->peer))
         client_doom(it, "no TLS handshake in time");
     if (it->is_shut && it->worker->now > it->end_at)
         client_doom(it, "");

@@ -85,20 +85,16 @@ static void add_refused(const worker *from, named_list *list) {
     }
 }
 
-static named_list list_of(void (*add_all)(const worker *from, named_list *list)) {
+named_list figures_of(named_kind kind) {
+    static void (*const adders[])(const worker *from, named_list *list) = {add_nodes, add_commands,
+                                                                           add_refused};
     named_list it = {memory_take(ROOM * sizeof *it.all), 0};
     for (uint64_t at = 0; at < the_proxy.settings.threads; at++) {
-        add_all(the_proxy.workers[at], &it);
+        adders[kind](the_proxy.workers[at], &it);
         merge(&it);
     }
     return it;
 }
-
-named_list figures_of_nodes(void) { return list_of(add_nodes); }
-
-named_list figures_of_commands(void) { return list_of(add_commands); }
-
-named_list figures_of_refused(void) { return list_of(add_refused); }
 
 void named_free(named_list *it) { memory_give(it->all, ROOM * sizeof *it->all); }
 
@@ -141,7 +137,7 @@ static void write_gauge(buffer *out, const char *name, const char *says, double 
 }
 
 void figures_write(const worker *it, buffer *out) {
-    named_list nodes = figures_of_nodes();
+    named_list nodes = figures_of(NAMED_NODES);
     stats_prometheus(out);
     write_gauge(out, "nodes", "nodes of the map", (double)nodes.count);
     write_gauge(out, "nodes_up", "nodes of the map whose last connections did not fail",
@@ -150,7 +146,8 @@ void figures_write(const worker *it, buffer *out) {
     write_gauge(out, "map_age_seconds", "how long ago the map was read",
                 (double)(it->now - it->map.read_at) / SECOND);
     write_of_nodes(&nodes, out);
-    write_commands(figures_of_commands(), "command_calls_total", "commands of clients by their name", out);
-    write_commands(figures_of_refused(), "refused_total", "commands that the proxy does not take", out);
+    write_commands(figures_of(NAMED_COMMANDS), "command_calls_total", "commands of clients by their name",
+                   out);
+    write_commands(figures_of(NAMED_REFUSED), "refused_total", "commands that the proxy does not take", out);
     named_free(&nodes);
 }

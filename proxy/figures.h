@@ -16,9 +16,8 @@ typedef struct named_list {
     size_t count;
 } named_list;
 
-named_list figures_of_nodes(void);
-named_list figures_of_commands(void);
-named_list figures_of_refused(void);
+typedef enum named_kind { NAMED_NODES, NAMED_COMMANDS, NAMED_REFUSED } named_kind;
+named_list figures_of(named_kind kind);
 void named_free(named_list *list);
 
 /* Slots that have a node in the map of the first thread, and its nodes whose last connection did not fail. */

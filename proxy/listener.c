@@ -6,6 +6,7 @@
 #include "peer.h"
 
 #include <errno.h>
+#include <stdio.h>
 #include <string.h>
 #include <sys/epoll.h>
 #include <sys/socket.h>
@@ -142,11 +143,6 @@ void listener_given(worker *worker) {
 }
 
 static void write_health(const worker *worker, buffer *out) {
-    (void)worker;
-    buffer_text(out, "ok\n");
-}
-
-static void write_readiness(const worker *worker, buffer *out) {
     buffer_print(out, "%zu of %d slots have a node\n", worker->map.slots, SLOTROUTE_SLOTS);
 }
 
@@ -158,29 +154,26 @@ static const struct page {
     {"/", "text/html; charset=utf-8", page_write},
     {"/metrics", "text/plain; version=0.0.4", figures_write},
     {"/healthz", "text/plain", write_health},
-    {"/readyz", "text/plain", write_readiness},
+    {"/readyz", "text/plain", write_health},
 };
 
-/* The page that a request asks for, or NULL. A head is asked for in the same way. */
-static const struct page *page_of(const char *request, bool *is_head) {
-    *is_head = strncmp(request, "HEAD ", 5) == 0;
-    const char *path = request + (*is_head ? 5 : 4);
-    if (!*is_head && strncmp(request, "GET ", 4) != 0)
-        return NULL;
+/* The page of a path, or NULL. */
+static const struct page *page_of(const char *path) {
     for (size_t at = 0; at < sizeof pages / sizeof *pages; at++)
-        if (strcspn(path, " ?\r\n") == strlen(pages[at].path) &&
-            strncmp(path, pages[at].path, strlen(pages[at].path)) == 0)
+        if (strcmp(path, pages[at].path) == 0)
             return &pages[at];
     return NULL;
 }
 
 /* Answers once the request has come whole. */
 static void answer(const worker *worker, reader *it) {
-    bool is_head = false;
+    char method[5] = "", path[16] = "";
     buffer text = {0};
     buffer_put(&it->in, "", 1);
-    const struct page *page = page_of((const char *)buffer_at(&it->in), &is_head);
-    bool is_bad = page != NULL && page->write == write_readiness && !figures_is_ready(worker);
+    sscanf((const char *)buffer_at(&it->in), "%4[A-Z] %15[^ ?\r\n]", method, path);
+    bool is_head = strcmp(method, "HEAD") == 0;
+    const struct page *page = is_head || strcmp(method, "GET") == 0 ? page_of(path) : NULL;
+    bool is_bad = strcmp(path, "/readyz") == 0 && !figures_is_ready(worker);
     if (page == NULL)
         buffer_text(&text, "no such page\n");
     else

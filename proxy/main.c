@@ -87,11 +87,6 @@ static bool open_log(void) {
 static int word_count;
 static char **all_words;
 
-static void end(int signal) {
-    int count = atomic_fetch_add(&the_proxy.draining, 1);
-    say("signal %d: %s", signal, count == 0 ? "open requests are finished" : "the end");
-}
-
 /* Signals come to this thread alone. The second one that ends the program does so at once. */
 static void *wait_for_signals(void *given) {
     int signal = 0;
@@ -99,7 +94,8 @@ static void *wait_for_signals(void *given) {
         if (sigwait(given, &signal) != 0)
             continue;
         if (signal == SIGTERM || signal == SIGINT) {
-            end(signal);
+            int count = atomic_fetch_add(&the_proxy.draining, 1);
+            say("signal %d: %s", signal, count == 0 ? "open requests are finished" : "the end");
         } else if (signal == SIGHUP) {
             open_log();
             settings_renew(&the_proxy.settings, word_count, all_words);

@@ -60,26 +60,19 @@ void node_become_open(node *it) {
     node_touch(it);
 }
 
-static void fail_to_shake(node *it) {
-    char text[100];
-    const char *why = it->peer.tls == NULL ? "" : tls_fault(&it->peer);
-    snprintf(text, sizeof text, "TLS: %s", *why != 0 ? why : "the handshake was not finished");
-    node_doom(it, text);
-}
-
 void node_finish_opening(node *it) {
-    const char *password = the_proxy.settings.node_password;
+    const char *password = the_proxy.settings.node_password, *why = NULL;
     int fault = 0;
     socklen_t len = sizeof fault;
     getsockopt(it->peer.fd, SOL_SOCKET, SO_ERROR, &fault, &len);
     if (it->peer.tls == NULL)
         it->heard = it->worker->now;
     bool is_right = fault == 0 && (it->peer.tls != NULL || tls_begin(&it->peer));
-    int shaken = is_right ? tls_shake(it->worker, &it->peer) : -1;
+    int shaken = is_right ? tls_shake(it->worker, &it->peer, &why) : -1;
     if (fault != 0)
         node_doom(it, strerror(fault));
     else if (shaken < 0)
-        fail_to_shake(it);
+        node_doom(it, why != NULL ? why : "TLS: the handshake was not finished");
     else if (shaken == 0)
         return;
     else if (password != NULL)

@@ -10,42 +10,32 @@ typedef struct sample {
 } sample;
 
 static sample samples[SECONDS + 1];
-static size_t taken;
+static size_t last; /* the newest one */
 
 static const char head[] =
-    "<!DOCTYPE html><html lang=en><meta charset=utf-8><meta http-equiv=refresh content=2>"
-    "<meta name=viewport content='width=device-width'><title>slotroute-proxy</title><style>"
-    ":root{color-scheme:light dark;--ink:#1b1f24;--soft:#59636e;--line:#d1d9e0;--page:#fff;--bad:#b3261e}"
-    "@media(prefers-color-scheme:dark){:root{--ink:#e6edf3;--soft:#9aa4af;--line:#3a424b;--page:#0e1116;"
-    "--bad:#ff8a80}}body{font:15px/1.4 system-ui,sans-serif;color:var(--ink);background:var(--page);"
-    "max-width:64rem;margin:1.5rem auto;padding:0 1rem}h1{font-size:1.3rem}h2{font-size:1rem;margin:1.6rem 0 "
-    ".3rem}"
-    "p,th{color:var(--soft)}dl{display:flex;flex-wrap:wrap;gap:1rem 2.2rem;margin:0}dt{color:var(--soft)}"
-    "dd{margin:0;font-size:1.4rem;font-variant-numeric:tabular-nums}svg{width:100%;display:block;"
-    "border:1px solid "
-    "var(--line)}table{border-collapse:collapse;width:100%;font-variant-numeric:tabular-nums}"
-    "th,td{text-align:right;padding:.25rem .5rem;border-bottom:1px solid var(--line);font-weight:400}"
-    "th:first-child,td:first-child{text-align:left}i{display:inline-block;width:.8em;height:.8em;"
-    "margin-right:.5em}.bad{color:var(--bad);font-weight:600}polygon,.none{fill:var(--soft)}"
-    ".none{fill:var(--bad)}</style>";
+    "<!DOCTYPE html><html lang=en><meta charset=utf-8><meta http-equiv=refresh "
+    "content=2><title>slotroute-proxy"
+    "</title><style>:root{color-scheme:light dark}body{font:15px/1.4 system-ui,sans-serif;margin:1.5rem auto;"
+    "max-width:64rem;padding:0 1rem;font-variant-numeric:tabular-nums}h1{font-size:1.3rem}h2{font-size:1rem;"
+    "margin:1.6rem 0 .3rem}p,th,dt{opacity:.7;margin:0}dl{display:flex;flex-wrap:wrap;gap:1rem 2.2rem}"
+    "dd{margin:0;font-size:1.4rem}svg{width:100%;display:block;border:1px solid #8886}table{width:100%;"
+    "border-collapse:collapse}th,td{text-align:right;padding:.25rem .5rem;border-bottom:1px solid #8886;"
+    "font-weight:400}th:first-child,td:first-child{text-align:left}i{display:inline-block;width:.8em;"
+    "height:.8em;margin-right:.5em}.bad{color:#d33;opacity:1}polygon{fill:#89a}.none{fill:#d33}</style>";
+
+static const sample *ago(size_t seconds) { return &samples[(last + SECONDS + 1 - seconds) % (SECONDS + 1)]; }
 
 void page_tick(const worker *it) {
     static uint64_t next;
-    sample *last = &samples[taken % (SECONDS + 1)];
     if (it->now < next)
         return;
-    next = it->now + SECOND;
-    last->commands = stats_count(COUNT_COMMANDS);
-    last->errors = stats_count(COUNT_NODE_ERRORS) + stats_count(COUNT_OWN_ERRORS);
+    last = (last + 1) % (SECONDS + 1);
+    samples[last].commands = stats_count(COUNT_COMMANDS);
+    samples[last].errors = stats_count(COUNT_NODE_ERRORS) + stats_count(COUNT_OWN_ERRORS);
     for (size_t step = 0; step < LATENCY_STEPS; step++)
-        last->took[step] = stats_took_sum(step);
-    taken++;
+        samples[last].took[step] = stats_took_sum(step);
+    next = it->now + SECOND;
 }
-
-/* How many seconds one can look back, and what was counted then. */
-static size_t past(size_t wanted) { return wanted < taken ? wanted : taken - 1; }
-
-static const sample *ago(size_t seconds) { return &samples[(taken - 1 - past(seconds)) % (SECONDS + 1)]; }
 
 static void write_tile(buffer *out, const char *name, const char *unit, double value) {
     buffer_print(out, "<div><dt>%s<dd>%.*f%s</div>", name, value < 10 && value > 0 ? 2 : 0, value, unit);
@@ -65,14 +55,13 @@ static double quantile(double part) {
 }
 
 static void write_tiles(const named_list *nodes, buffer *out) {
-    double seconds = past(RECENT) > 0 ? (double)past(RECENT) : 1;
     uint64_t in_flight = 0;
     for (size_t at = 0; at < nodes->count; at++)
         in_flight += nodes->all[at].figures[NODE_IN_FLIGHT];
     buffer_text(out, "<dl>");
     write_tile(out, "clients", "", (double)stats_count(COUNT_CLIENTS_NOW));
-    write_tile(out, "commands a second", "", (double)(ago(0)->commands - ago(RECENT)->commands) / seconds);
-    write_tile(out, "errors a second", "", (double)(ago(0)->errors - ago(RECENT)->errors) / seconds);
+    write_tile(out, "commands a second", "", (double)(ago(0)->commands - ago(RECENT)->commands) / RECENT);
+    write_tile(out, "errors a second", "", (double)(ago(0)->errors - ago(RECENT)->errors) / RECENT);
     write_tile(out, "in flight", "", (double)in_flight);
     write_tile(out, "half took less than", " ms", quantile(0.5));
     write_tile(out, "99 of 100", " ms", quantile(0.99));
@@ -83,19 +72,18 @@ static void write_tiles(const named_list *nodes, buffer *out) {
 
 /* Commands of each second of the last minute. */
 static void write_rates(buffer *out) {
-    uint64_t most = 1;
-    for (size_t at = 0; at < past(SECONDS); at++)
-        most = ago(at)->commands - ago(at + 1)->commands > most ? ago(at)->commands - ago(at + 1)->commands
-                                                                : most;
-    buffer_print(
-        out,
-        "<h2>Commands a second, in the last minute</h2><p>at most %llu<svg viewBox='0 0 %d 100' "
-        "height=80 preserveAspectRatio=none role=img aria-label='commands a second'><polygon points='%d,100",
-        (unsigned long long)most, SECONDS - 1, SECONDS - 1);
-    for (size_t at = 0; at < past(SECONDS); at++)
-        buffer_print(out, " %zu,%.1f", SECONDS - 1 - at,
-                     100 - 98 * (double)(ago(at)->commands - ago(at + 1)->commands) / (double)most);
-    buffer_print(out, " %zu,100'/></svg>", past(SECONDS) > 0 ? SECONDS - past(SECONDS) : SECONDS - 1);
+    uint64_t rates[SECONDS], most = 1;
+    for (size_t at = 0; at < SECONDS; at++) {
+        rates[at] = ago(at)->commands - ago(at + 1)->commands;
+        most = rates[at] > most ? rates[at] : most;
+    }
+    buffer_print(out,
+                 "<h2>Commands a second, in the last minute</h2><p>at most %llu</p><svg viewBox='0 0 59 100' "
+                 "height=80 preserveAspectRatio=none role=img aria-label='rates'><polygon points='59,100",
+                 (unsigned long long)most);
+    for (size_t at = 0; at < SECONDS; at++)
+        buffer_print(out, " %zu,%.1f", SECONDS - 1 - at, 100 - 98 * (double)rates[at] / (double)most);
+    buffer_text(out, " 0,100'/></svg>");
 }
 
 /* The owner of slots that make one bar, or NO_NODE if one of them has none. */
@@ -110,11 +98,12 @@ static unsigned hue(uint64_t number) { return (unsigned)(number * 137 + 210) % 3
 
 /* The slots from left to right, in the colors of their nodes. */
 static void write_strip(const worker *it, buffer *out) {
-    buffer_print(
-        out,
-        "<h2>Slots</h2><p>%zu of %d have a node. The map was read %.1f seconds ago.<svg viewBox='0 0 %d 1' "
-        "height=36 preserveAspectRatio=none role=img aria-label='the node of each slot'>",
-        it->map.slots, SLOTROUTE_SLOTS, (double)(it->now - it->map.read_at) / SECOND, SLOTROUTE_SLOTS);
+    buffer_print(out,
+                 "<h2>Slots</h2><p>%zu of %d have a node. The map was read %.1f seconds ago.</p><svg "
+                 "viewBox='0 0 %d 1' "
+                 "height=36 preserveAspectRatio=none role=img aria-label='the node of each slot'>",
+                 it->map.slots, SLOTROUTE_SLOTS, (double)(it->now - it->map.read_at) / SECOND,
+                 SLOTROUTE_SLOTS);
     for (size_t first = 0, end; first < SLOTROUTE_SLOTS; first = end) {
         uint16_t owner = owner_of(it, first);
         for (end = first + COLUMN; end < SLOTROUTE_SLOTS && owner_of(it, end) == owner;)
@@ -128,23 +117,22 @@ static void write_strip(const worker *it, buffer *out) {
     buffer_text(out, "</svg>");
 }
 
+/* The columns of numbers. */
+static const node_figure cells[] = {NODE_SLOTS, NODE_REQUESTS, NODE_IN_FLIGHT, NODE_ERRORS, NODE_LOST};
+
 static void write_nodes(const named_list *nodes, buffer *out) {
     buffer_text(out, "<h2>Nodes</h2><table><tr><th>node<th>role<th>state<th>slots<th>requests<th>in "
-                     "flight<th>errors<th>connections ended");
+                     "flight<th>errors<th>lost");
     for (size_t at = 0; at < nodes->count; at++) {
         const uint64_t *it = nodes->all[at].figures;
-        bool is_down = it[NODE_DOWN] > 0;
-        buffer_print(out, "<tr><td><i style='background:hsl(%u 55%% 50%%)'></i>%s<td>%s<td%s>%s",
+        const char *state = it[NODE_DOWN] > 0       ? " class=bad>down"
+                            : it[NODE_OPEN_NOW] > 0 ? ">up"
+                                                    : ">not asked";
+        buffer_print(out, "<tr><td><i style='background:hsl(%u 55%% 50%%)'></i>%s<td>%s<td%s",
                      hue(it[NODE_NUMBER]), nodes->all[at].name, it[NODE_SLOTS] > 0 ? "primary" : "replica",
-                     is_down ? " class=bad" : "",
-                     is_down                 ? "down"
-                     : it[NODE_OPEN_NOW] > 0 ? "up"
-                                             : "not asked");
-        for (size_t cell = 0; cell < 5; cell++) {
-            static const node_figure cells[] = {NODE_SLOTS, NODE_REQUESTS, NODE_IN_FLIGHT, NODE_ERRORS,
-                                                NODE_LOST};
-            buffer_print(out, "<td>%llu", (unsigned long long)it[cells[cell]]);
-        }
+                     state);
+        for (const node_figure *cell = cells; cell < cells + sizeof cells / sizeof *cells; cell++)
+            buffer_print(out, "<td>%llu", (unsigned long long)it[*cell]);
     }
     buffer_text(out, "</table>");
 }
@@ -157,7 +145,7 @@ static void write_commands(named_list list, const char *says, buffer *out) {
 }
 
 void page_write(const worker *it, buffer *out) {
-    named_list nodes = figures_of_nodes();
+    named_list nodes = figures_of(NAMED_NODES);
     page_tick(it);
     buffer_text(out, head);
     buffer_print(out,
@@ -172,8 +160,8 @@ void page_write(const worker *it, buffer *out) {
     write_strip(it, out);
     write_nodes(&nodes, out);
     buffer_text(out, "<h2>Commands</h2><table><tr><th>name<th>since the start");
-    write_commands(figures_of_commands(), "", out);
-    write_commands(figures_of_refused(), ", refused", out);
+    write_commands(figures_of(NAMED_COMMANDS), "", out);
+    write_commands(figures_of(NAMED_REFUSED), ", refused", out);
     buffer_text(out, "</table>");
     named_free(&nodes);
 }

@@ -49,9 +49,9 @@ arrived peer_read(worker *worker, const peer *peer, buffer *in) {
         room = room > 16 * READ_ROOM ? 16 * READ_ROOM : room;
         into = buffer_room(in, room);
     }
-    ssize_t count = peer->tls == NULL ? read(peer->fd, into, room) : tls_read(peer, into, room);
+    ssize_t count = peer->tls == NULL ? read(peer->fd, into, room) : tls_read(peer, into, room, &it.is_end);
     it.fresh = count > 0 ? (size_t)count : 0;
-    it.is_end = count == 0 || tls_has_ended(peer);
+    it.is_end |= count == 0;
     it.is_broken = count < 0 && errno != EAGAIN && errno != EINTR;
     if (it.is_kept)
         in->end += it.fresh;

@@ -4,7 +4,6 @@
 #include "proxy.h"
 
 #include <errno.h>
-#include <stdarg.h>
 #include <stdio.h>
 #include <stdlib.h>
 #include <string.h>
@@ -17,58 +16,47 @@ typedef struct row {
     kind kind;
     size_t at; /* the offset of the field */
     uint64_t least, most;
-    bool is_fixed; /* it is read at the start alone */
 } row;
 
 #define AT(field) offsetof(settings, field)
 static const row rows[] = {
-    {"node", "HOST:PORT of a node; may be given several times", SEED, AT(seeds), 0, 0, true},
-    {"take", "NAME of a module's command on one key; may be given several times", NAME, 0, 0, 0, true},
-    {"listen", "ADDR:PORT for clients (127.0.0.1:6380)", TEXT, AT(listen), 0, 0, true},
-    {"unix", "PATH of a socket for clients", TEXT, AT(unix_path), 0, 0, true},
-    {"metrics", "ADDR:PORT of figures for Prometheus", TEXT, AT(metrics), 0, 0, true},
-    {"log", "PATH of the log (standard error)", TEXT, AT(log), 0, 0, true},
-    {"threads", "how many event loops (1)", NUMBER, AT(threads), 1, MOST_THREADS, true},
-    {"password", "that clients need", TEXT, AT(password), 0, 0, false},
-    {"password-file", "PATH of a file with that password", SECRET, AT(password), 0, 0, false},
-    {"node-password", "that nodes need", TEXT, AT(node_password), 0, 0, false},
-    {"node-password-file", "PATH of a file with that password", SECRET, AT(node_password), 0, 0, false},
-    {"node-user", "that nodes know", TEXT, AT(node_user), 0, 0, false},
-    {"tls", "clients speak TLS", SWITCH, AT(tls), 0, 0, true},
-    {"tls-cert", "PATH of the certificate, for clients and nodes", TEXT, AT(tls_cert), 0, 0, false},
-    {"tls-key", "PATH of its key", TEXT, AT(tls_key), 0, 0, false},
-    {"tls-ca", "PATH of the certificates of authorities (those of the system)", TEXT, AT(tls_ca), 0, 0,
-     false},
-    {"tls-auth-clients", "clients need a certificate", SWITCH, AT(tls_auth_clients), 0, 0, false},
-    {"node-tls", "nodes speak TLS", SWITCH, AT(node_tls), 0, 0, true},
-    {"node-tls-name", "NAME that each node's certificate has to have", TEXT, AT(node_tls_name), 0, 0, false},
-    {"max-clients", "how many clients at most (10000)", NUMBER, AT(max_clients), 1, 1000000, false},
-    {"max-message", "bytes of a request at most (64mb)", SIZE, AT(max_message), 1024, 1ULL << 32, false},
-    {"max-reply", "bytes of a node's reply at most (512mb)", SIZE, AT(max_reply), 1024, 1ULL << 32, false},
-    {"client-memory", "bytes for one client at most (512mb)", SIZE, AT(client_memory), 1 << 20, 1ULL << 40,
-     false},
-    {"memory", "bytes for all clients at most (2gb)", SIZE, AT(memory), 1 << 20, 1ULL << 44, false},
-    {"timeout", "milliseconds that a node may be silent (5000)", NUMBER, AT(timeout), 50, 3600000, false},
-    {"retry", "milliseconds during which a command is tried again (5000)", NUMBER, AT(retry), 0, 3600000,
-     false},
+    {"node", "HOST:PORT of a node; may be given several times", SEED, AT(seeds), 0, 0},
+    {"take", "NAME of a module's command on one key; may be given several times", NAME, 0, 0, 0},
+    {"listen", "ADDR:PORT for clients (127.0.0.1:6380)", TEXT, AT(listen), 0, 0},
+    {"unix", "PATH of a socket for clients", TEXT, AT(unix_path), 0, 0},
+    {"metrics", "ADDR:PORT of figures, by HTTP", TEXT, AT(metrics), 0, 0},
+    {"log", "PATH of the log (standard error)", TEXT, AT(log), 0, 0},
+    {"threads", "how many event loops (1)", NUMBER, AT(threads), 1, MOST_THREADS},
+    {"tls", "clients speak TLS", SWITCH, AT(tls), 0, 0},
+    {"node-tls", "nodes speak TLS", SWITCH, AT(node_tls), 0, 0},
+    {"tls-cert", "PATH of the certificate, for clients and nodes", TEXT, AT(tls_cert), 0, 0},
+    {"tls-key", "PATH of its key", TEXT, AT(tls_key), 0, 0},
+    {"tls-ca", "PATH of the certificates of authorities (those of the system)", TEXT, AT(tls_ca), 0, 0},
+    {"tls-auth-clients", "clients need a certificate", SWITCH, AT(tls_auth_clients), 0, 0},
+    {"node-tls-name", "NAME that each node's certificate has to have", TEXT, AT(node_tls_name), 0, 0},
+    {"password", "that clients need", TEXT, AT(password), 0, 0},
+    {"password-file", "PATH of a file with that password", SECRET, AT(password), 0, 0},
+    {"node-password", "that nodes need", TEXT, AT(node_password), 0, 0},
+    {"node-password-file", "PATH of a file with that password", SECRET, AT(node_password), 0, 0},
+    {"node-user", "that nodes know", TEXT, AT(node_user), 0, 0},
+    {"max-clients", "how many clients at most (10000)", NUMBER, AT(max_clients), 1, 1000000},
+    {"max-message", "bytes of a request at most (64mb)", SIZE, AT(max_message), 1024, 1ULL << 32},
+    {"max-reply", "bytes of a node's reply at most (512mb)", SIZE, AT(max_reply), 1024, 1ULL << 32},
+    {"client-memory", "bytes for one client at most (512mb)", SIZE, AT(client_memory), 1 << 20, 1ULL << 40},
+    {"memory", "bytes for all clients at most (2gb)", SIZE, AT(memory), 1 << 20, 1ULL << 44},
+    {"timeout", "milliseconds that a node may be silent (5000)", NUMBER, AT(timeout), 50, 3600000},
+    {"retry", "milliseconds during which a command is tried again (5000)", NUMBER, AT(retry), 0, 3600000},
     {"client-timeout", "milliseconds that a client may leave replies unread (60000)", NUMBER,
-     AT(client_timeout), 100, 86400000, false},
-    {"drain", "milliseconds that SIGTERM leaves to open requests (10000)", NUMBER, AT(drain), 0, 3600000,
-     false},
-    {"quiet", "log only errors", SWITCH, AT(quiet), 0, 0, false},
+     AT(client_timeout), 100, 86400000},
+    {"drain", "milliseconds that SIGTERM leaves to open requests (10000)", NUMBER, AT(drain), 0, 3600000},
+    {"quiet", "log only errors", SWITCH, AT(quiet), 0, 0},
 };
-enum { ROWS = sizeof rows / sizeof *rows, LONGEST_SECRET = 4096 };
+enum { ROWS = sizeof rows / sizeof *rows, FIXED = 9 }; /* the first ones are read at the start alone */
+enum { LONGEST_SECRET = 4096 };
 
 /* What is wrong with the settings, and whether they are read for another time. */
 static char fault[500];
 static bool is_again;
-
-__attribute__((format(printf, 1, 2))) static void complain(const char *format, ...) {
-    va_list words;
-    va_start(words, format);
-    vsnprintf(fault, sizeof fault, format, words);
-    va_end(words);
-}
 
 /* A text that settings point to. It stays in memory, once, since a thread may read it at any time. */
 typedef struct kept {
@@ -91,15 +79,13 @@ static const char *keep(const char *text) {
 
 /* The first line of a file, or NULL. */
 static const char *read_secret(const char *path) {
-    char line[LONGEST_SECRET];
+    static char line[LONGEST_SECRET];
     FILE *file = fopen(path, "r");
-    bool is_there = file != NULL && fgets(line, sizeof line, file) != NULL;
+    const char *found = file == NULL ? NULL : fgets(line, sizeof line, file);
     if (file != NULL)
         fclose(file);
-    if (!is_there)
-        return NULL;
     line[strcspn(line, "\r\n")] = 0;
-    return keep(line);
+    return found;
 }
 
 /* Reads a number, for a size with a unit. */
@@ -158,7 +144,7 @@ static const char *set(settings *settings, const row *row, const char *value) {
     if (row->kind == TEXT || row->kind == SECRET)
         return set_text(field, row->kind == TEXT ? value : read_secret(value));
     if (row->kind == SWITCH) {
-        *(_Atomic bool *)field = strcmp(value, "yes") == 0;
+        *(number *)field = strcmp(value, "yes") == 0;
         return strcmp(value, "yes") == 0 || strcmp(value, "no") == 0 ? NULL : "is neither yes nor no";
     }
     if (!read_number(row, value, &found))
@@ -194,7 +180,7 @@ static const char *read_line(settings *settings, char *line) {
 static bool read_file(settings *settings, const char *path) {
     FILE *file = fopen(path, "r");
     if (file == NULL) {
-        complain("%s: %s", path, strerror(errno));
+        snprintf(fault, sizeof fault, "%s: %s", path, strerror(errno));
         return false;
     }
     size_t number = 0, room = 0;
@@ -204,7 +190,7 @@ static bool read_file(settings *settings, const char *path) {
         number++;
         wrong = read_line(settings, line);
         if (wrong != NULL)
-            complain("%s:%zu: %s %s", path, number, line + strspn(line, " \t"), wrong);
+            snprintf(fault, sizeof fault, "%s:%zu: %s %s", path, number, line + strspn(line, " \t"), wrong);
     }
     free(line);
     fclose(file);
@@ -224,6 +210,14 @@ static int read_flag(settings *settings, int count, char **words, int at) {
     const char *name = words[at];
     const char *value = at + 1 < count ? words[at + 1] : NULL;
     const row *row = strncmp(name, "--", 2) == 0 ? find(name + 2) : NULL;
+    if (strcmp(name, "--help") == 0) {
+        print_usage(stdout);
+        exit(0);
+    }
+    if (strcmp(name, "--version") == 0) {
+        printf("slotroute-proxy %s\n", layer_version());
+        exit(0);
+    }
     if (strcmp(name, "--config") == 0 && value != NULL)
         return read_file(settings, value) ? 2 : 0;
     if (row != NULL && row->kind == SWITCH) {
@@ -235,7 +229,7 @@ static int read_flag(settings *settings, int count, char **words, int at) {
                                         : set(settings, row, value);
     if (wrong == NULL)
         return 2;
-    complain("%s %s %s", name, row != NULL && value != NULL ? value : "", wrong);
+    snprintf(fault, sizeof fault, "%s %s %s", name, row != NULL && value != NULL ? value : "", wrong);
     return 0;
 }
 
@@ -267,26 +261,11 @@ static bool read_all(settings *settings, int count, char **words) {
             return false;
     }
     if (settings->seed_count == 0)
-        complain("no node is named");
+        snprintf(fault, sizeof fault, "no node is named");
     return settings->seed_count > 0;
 }
 
-/* Prints what a flag asks for in place of the program, and ends it. */
-static void answer_flags(int count, char **words) {
-    for (int at = 1; at < count; at++) {
-        bool is_help = strcmp(words[at], "--help") == 0;
-        if (is_help)
-            print_usage(stdout);
-        else if (strcmp(words[at], "--version") == 0)
-            printf("slotroute-proxy %s\n", layer_version());
-        else
-            continue;
-        exit(0);
-    }
-}
-
 bool settings_read(settings *settings, int count, char **words) {
-    answer_flags(count, words);
     if (read_all(settings, count, words))
         return true;
     if (settings->seed_count == 0 && count == 1)
@@ -298,19 +277,15 @@ bool settings_read(settings *settings, int count, char **words) {
 
 /* Takes the value of one row, if it may change. */
 static void renew(settings *settings, const struct settings *from, const row *row) {
-    static const size_t sizes[] = {
-        [TEXT] = sizeof(text),   [SECRET] = sizeof(text), [NUMBER] = sizeof(number),
-        [SIZE] = sizeof(number), [SWITCH] = sizeof(bool), [SEED] = sizeof from->seeds};
     void *field = (char *)settings + row->at;
     const void *found = (const char *)from + row->at;
-    if (row->kind == NAME || memcmp(field, found, sizes[row->kind]) == 0)
+    if (row->kind == NAME ||
+        memcmp(field, found, row->kind == SEED ? sizeof from->seeds : sizeof(number)) == 0)
         return;
-    if (row->is_fixed)
+    if (row < rows + FIXED)
         warn("%s stays as it was at the start", row->name);
     else if (row->kind == TEXT || row->kind == SECRET)
         *(text *)field = *(const text *)found;
-    else if (row->kind == SWITCH)
-        *(_Atomic bool *)field = *(const _Atomic bool *)found;
     else
         *(number *)field = *(const number *)found;
 }

@@ -82,26 +82,29 @@ bool tls_begin(peer *peer) {
            (SSL_set1_host(it, name) == 1 && SSL_set_tlsext_host_name(it, name) == 1);
 }
 
-int tls_shake(worker *worker, peer *peer) {
-    if (peer->tls == NULL || SSL_is_init_finished(peer->tls))
+bool tls_is_shaken(const peer *peer) { return peer->tls == NULL || SSL_is_init_finished(peer->tls); }
+
+static const char *reason_of(const peer *peer) {
+    long verified = SSL_get_verify_result(peer->tls);
+    return verified != X509_V_OK ? X509_verify_cert_error_string(verified)
+                                 : ERR_reason_error_string(ERR_peek_error());
+}
+
+int tls_shake(worker *worker, peer *peer, const char **why) {
+    if (tls_is_shaken(peer))
         return 1;
     ERR_clear_error();
     int done = SSL_do_handshake(peer->tls), fault = SSL_get_error(peer->tls, done);
-    if (fault == SSL_ERROR_WANT_READ || fault == SSL_ERROR_WANT_WRITE)
+    bool waits = fault == SSL_ERROR_WANT_READ || fault == SSL_ERROR_WANT_WRITE;
+    if (waits)
         peer_watch(worker, peer, fault == SSL_ERROR_WANT_READ ? EPOLLIN : EPOLLOUT);
     else if (done != 1)
-        return -1;
-    return done == 1;
-}
-
-const char *tls_fault(const peer *peer) {
-    long found = SSL_get_verify_result(peer->tls);
-    const char *reason = ERR_reason_error_string(ERR_peek_error());
-    return found != X509_V_OK ? X509_verify_cert_error_string(found) : reason != NULL ? reason : "";
+        *why = reason_of(peer);
+    return done == 1 ? 1 : waits ? 0 : -1;
 }
 
 /* A record is read whole or not at all: there is room for the longest. */
-ssize_t tls_read(const peer *peer, uint8_t *into, size_t room) {
+ssize_t tls_read(const peer *peer, uint8_t *into, size_t room, bool *is_end) {
     size_t count = 0;
     int last = 1;
     ERR_clear_error();
@@ -110,8 +113,9 @@ ssize_t tls_read(const peer *peer, uint8_t *into, size_t room) {
         count += last > 0 ? (size_t)last : 0;
     }
     int fault = SSL_get_error(peer->tls, last);
+    *is_end = fault == SSL_ERROR_ZERO_RETURN;
     errno = fault == SSL_ERROR_WANT_READ ? EAGAIN : EPROTO; /* a peer that has us write first is closed */
-    return count > 0 || fault == SSL_ERROR_ZERO_RETURN ? (ssize_t)count : -1;
+    return count > 0 || *is_end ? (ssize_t)count : -1;
 }
 
 ssize_t tls_write(const peer *peer, const uint8_t *bytes, size_t len) {
@@ -121,11 +125,7 @@ ssize_t tls_write(const peer *peer, const uint8_t *bytes, size_t len) {
     return count > 0 ? count : -1;
 }
 
-bool tls_has_ended(const peer *peer) {
-    return peer->tls != NULL && (SSL_get_shutdown(peer->tls) & SSL_RECEIVED_SHUTDOWN) != 0;
-}
-
-void tls_shut(peer *peer) {
+void tls_shut(const peer *peer) {
     if (peer->tls != NULL && SSL_is_init_finished(peer->tls))
         SSL_shutdown(peer->tls);
 }
@@ -141,4 +141,17 @@ bool tls_start(void) {
         warn("this program was made without TLS: make TLS=1");
     return !is_wanted;
 }
+bool tls_begin(peer *peer) { return peer->tls == NULL; }
+int tls_shake(worker *worker, peer *peer, const char **why) {
+    return (void)worker, (void)why, tls_begin(peer);
+}
+bool tls_is_shaken(const peer *peer) { return peer->tls == NULL; }
+ssize_t tls_read(const peer *peer, uint8_t *into, size_t room, bool *is_end) {
+    return (void)into, *is_end = peer->tls == NULL && room == 0, -1;
+}
+ssize_t tls_write(const peer *peer, const uint8_t *bytes, size_t len) {
+    return (void)peer, (void)bytes, (void)len, -1;
+}
+void tls_shut(const peer *peer) { (void)peer; }
+void tls_free(peer *peer) { peer->tls = NULL; }
 #endif

@@ -252,8 +252,8 @@ def try_ready():
             head = page("/metrics", OTHER_FIGURES, "HEAD")[::2], page("/metrics", OTHER_FIGURES, "POST")[0]
         node.shutdown()
     print(found, gone, served, back, head)
-    first = [(200, "ok\n"), (200, "16384 of 16384 slots have a node\n"), (404, "no such page\n"), (404, "no such page\n")]
-    then = [(200, "ok\n"), (503, "16001 of 16384 slots have a node\n"), (503, "")]
+    first = [(200, "16384 of 16384 slots have a node\n"), (200, "16384 of 16384 slots have a node\n"), (404, "no such page\n"), (404, "no such page\n")]
+    then = [(200, "16001 of 16384 slots have a node\n"), (503, "16001 of 16384 slots have a node\n"), (503, "")]
     return found == first + then and served == 16001 and gone is not None and back is not None and head == ((200, ""), 404)
 
 
