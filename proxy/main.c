@@ -153,10 +153,10 @@ int main(int count, char **words) {
     pthread_t waiter;
     word_count = count;
     all_words = words;
+    block_signals(&signals);
     commands_start();
     if (!settings_read(&the_proxy.settings, count, words) || !open_log() || !tls_start())
         return 2;
-    block_signals(&signals);
     raise_limits();
     the_proxy.start = clock_now();
     for (unsigned at = 0; at < the_proxy.settings.threads; at++) {
