@@ -39,7 +39,7 @@ def make_archive(prefix, room, out):
             doc / "examples" / example,
             0o755 if "." not in example else 0o644,
         )
-    for file in ("slotroute-proxy.conf", "slotroute-proxy.service"):
+    for file in ("slotroute-proxy.conf", "slotroute-proxy.logrotate", "slotroute-proxy.service"):
         put(PACKAGING / file, doc / "examples" / file)
     write_tar(folder, out / f"{name}.tar.xz")
 

@@ -110,7 +110,8 @@ def proxy_package(prefix, folder):
     put(PACKAGING / "slotroute-proxy.service", unit)
     put(ROOT / "proxy" / "README.md", doc / "README.md")
     put(ROOT / "proxy" / "rates.svg", doc / "rates.svg")
-    control(folder, "conffiles", "/etc/slotroute-proxy.conf\n")
+    put(PACKAGING / "slotroute-proxy.logrotate", folder / "etc" / "logrotate.d" / "slotroute-proxy")
+    control(folder, "conffiles", "/etc/logrotate.d/slotroute-proxy\n/etc/slotroute-proxy.conf\n")
     for script in ("postinst", "prerm", "postrm"):
         control(folder, script, (PACKAGING / f"slotroute-proxy.{script}").read_text(), 0o755)
     return {

@@ -9,6 +9,7 @@
 #include "request.h"
 #include "scan.h"
 #include "subscription.h"
+#include "tls.h"
 #include "transaction.h"
 
 #include <errno.h>
@@ -36,6 +37,8 @@ void client_begin(worker *worker, int fd) {
     worker->clients = it;
     peer_set_up(fd);
     peer_watch(worker, &it->peer, EPOLLIN);
+    if (!tls_begin(&it->peer))
+        client_doom(it, "TLS could not begin");
     if (worker->is_draining)
         client_end(it);
     figure_add(&worker->stats.counts[COUNT_CLIENTS_TAKEN], 1);
@@ -73,6 +76,7 @@ static void client_close(client *it) {
     buffer_free(&it->in);
     buffer_free(&it->out);
     buffer_free(&it->name);
+    tls_free(&it->peer);
     close(it->peer.fd);
     it->peer.fd = -1;
     if (it->next != NULL)
@@ -123,6 +127,7 @@ static void refuse(client *it, words words, const char *why) {
     words_next(&words, &first);
     for (size_t at = 0; at < first.len && at + 1 < sizeof name; at++)
         name[at] = (char)(first.text[at] > ' ' && first.text[at] <= '~' ? first.text[at] : '?');
+    stats_refused(&it->worker->stats, name);
     snprintf(text, sizeof text, "the proxy does not take '%s': %s", name, why);
     request_refuse(it, text);
 }
@@ -144,7 +149,8 @@ static const char *refusal_of_state(const client *it, command_kind kind) {
 
 /* Takes one whole request. False if it has to wait for the earlier ones. */
 static bool take(client *it, const uint8_t *bytes, size_t len) {
-    command_kind kind = command_of(bytes, len);
+    size_t number;
+    command_kind kind = command_of(bytes, len, &number);
     words words = words_of(bytes, len);
     const char *refusal = command_refusal(kind), *refusal_now = refusal_of_state(it, kind);
     bool has_begun = true;
@@ -171,7 +177,7 @@ static bool take(client *it, const uint8_t *bytes, size_t len) {
     else
         own_answer(it, kind, bytes, len);
     if (has_begun)
-        figure_add(&it->worker->stats.counts[COUNT_COMMANDS], 1);
+        stats_command(&it->worker->stats, number);
     return has_begun;
 }
 
@@ -215,7 +221,11 @@ static bool may_be_paused(const client *it) {
 }
 
 void client_event(client *it, uint32_t events) {
-    if (it->peer.fd < 0)
+    const char *why = NULL;
+    int shaken = it->peer.fd < 0 ? 0 : tls_shake(it->worker, &it->peer, &why);
+    if (shaken < 0)
+        client_doom(it, why != NULL ? why : "");
+    if (shaken <= 0)
         return;
     client_touch(it);
     bool has_left = (events & EPOLLRDHUP) != 0 && is_blocked(it);
@@ -262,6 +272,7 @@ static void finish(client *it) {
     } else if (it->is_ending && !it->is_shut) {
         it->is_shut = true;
         it->end_at = it->worker->now + (it->worker->is_draining ? SHORT_GOODBYE : GOODBYE);
+        tls_shut(&it->peer);
         shutdown(it->peer.fd, SHUT_WR);
     }
 }
@@ -292,6 +303,8 @@ void client_tick(client *it) {
     uint64_t limit = the_proxy.settings.client_timeout * MILLISECOND;
     if (buffer_len(&it->out) > 0 && it->worker->now - it->active_at > limit)
         client_doom(it, "it leaves its replies unread");
+    if (it->worker->now - it->active_at > SHAKING_TIME && !tls_is_shaken(&it->peer))
+        client_doom(it, "no TLS handshake in time");
     if (it->is_shut && it->worker->now > it->end_at)
         client_doom(it, "");
     if (it->is_paused && !it->worker->is_pressed)

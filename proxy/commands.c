@@ -4,7 +4,7 @@
 #include <strings.h>
 
 /* The table has room for more than the names below and those that are added, so that each search ends. */
-enum { PLACES = 2048, LONGEST_NAME = 40 };
+enum { PLACES = COMMANDS, LONGEST_NAME = 40 };
 
 typedef struct group {
     command_kind kind;
@@ -160,14 +160,16 @@ bool word_is(word word, const char *text) {
     return word.len == strlen(text) && strncasecmp(word.text, text, word.len) == 0;
 }
 
-/* What a name of two words is, as SCRIPT LOAD. */
-static command_kind with_second(char *name, size_t len, words words) {
+const char *command_name(size_t number) { return places[number].name; }
+
+/* The place of a name of two words, as SCRIPT LOAD, or NULL. */
+static const place *with_second(char *name, size_t len, words words) {
     word second;
     name[len++] = '|';
     if (!words_next(&words, &second))
-        return COMMAND_UNKNOWN;
+        return NULL;
     len = join(name, len, second);
-    return len == 0 || memchr(name, 0, len) != NULL ? COMMAND_UNKNOWN : place_of(name, len)->kind;
+    return len == 0 || memchr(name, 0, len) != NULL ? NULL : place_of(name, len);
 }
 
 /* Whether a word is BLOCK. A key of this name counts as well: a group may be named as any other word. */
@@ -179,18 +181,23 @@ static bool has_block(words words) {
     return false;
 }
 
-command_kind command_of(const uint8_t *request, size_t len) {
+command_kind command_of(const uint8_t *request, size_t len, size_t *number) {
     char name[LONGEST_NAME];
     words words = words_of(request, len);
     word first;
+    *number = COMMANDS;
     if (!words_next(&words, &first))
         return COMMAND_UNKNOWN;
     size_t length = join(name, 0, first);
     if (length == 0 || length + 1 >= LONGEST_NAME || memchr(name, '|', length) || memchr(name, 0, length))
         return COMMAND_UNKNOWN;
-    command_kind kind = place_of(name, length)->kind;
-    if (kind == COMMAND_UNKNOWN)
-        kind = with_second(name, length, words);
+    const place *found = place_of(name, length);
+    if (found->kind == COMMAND_UNKNOWN)
+        found = with_second(name, length, words);
+    if (found == NULL || found->kind == COMMAND_UNKNOWN)
+        return COMMAND_UNKNOWN;
+    *number = (size_t)(found - places);
+    command_kind kind = found->kind;
     return kind == COMMAND_STREAM && has_block(words) ? COMMAND_BLOCKING : kind;
 }
 

@@ -62,8 +62,12 @@ enum { MOST_ADDED = 1024 };
 /* Has another name taken, whose key is its first argument. Returns why it is not, or NULL. */
 const char *commands_take(const char *name);
 
-/* What a request is, by its first words. */
-command_kind command_of(const uint8_t *request, size_t len);
+/* Names have numbers below COMMANDS, which is that of all other names. */
+enum { COMMANDS = 2048 };
+const char *command_name(size_t number); /* with `|` for the space of two words, or "" */
+
+/* What a request is, by its first words, and the number of its name. */
+command_kind command_of(const uint8_t *request, size_t len, size_t *number);
 
 /* Whether nodes answer it over a connection that many clients share. */
 static inline bool command_is_taken(command_kind kind) {

@@ -28,6 +28,7 @@ whole inline_read(const uint8_t *bytes, size_t len, buffer *request, size_t *end
         size_t size = strcspn(starts[at], blank);
         buffer_print(request, "$%zu\r\n%.*s\r\n", size, (int)size, starts[at]);
     }
-    bool is_own = command_of(buffer_at(request), buffer_len(request)) >= COMMAND_PING;
+    size_t number;
+    bool is_own = command_of(buffer_at(request), buffer_len(request), &number) >= COMMAND_PING;
     return is_own && count < MOST && strlen(line) == *end ? IS_WHOLE : IS_MALFORMED;
 }

@@ -1,9 +1,12 @@
 #include "listener.h"
 
 #include "client.h"
+#include "figures.h"
+#include "page.h"
 #include "peer.h"
 
 #include <errno.h>
+#include <stdio.h>
 #include <string.h>
 #include <sys/epoll.h>
 #include <sys/socket.h>
@@ -31,8 +34,19 @@ static bool open_one(worker *worker, peer *peer, peer_kind kind, int fd) {
     return true;
 }
 
+/* Warns if whoever reaches the proxy over a network can use the cluster. */
+static void warn_if_open(const settings *set) {
+    const char *address = set->listen;
+    bool is_near = strncmp(address, "127.", 4) == 0 || strncmp(address, "localhost:", 10) == 0 ||
+                   strncmp(address, "[::1]", 5) == 0;
+    if (!is_near && set->password == NULL && !(set->tls && set->tls_auth_clients))
+        warn("%s is open to all who reach it: there is no password, and no client needs a certificate",
+             address);
+}
+
 bool listeners_open(worker *worker) {
     const settings *set = &the_proxy.settings;
+    warn_if_open(set);
     for (size_t at = 0; at < READERS; at++)
         readers[at].peer = (peer){.kind = PEER_READER, .fd = -1};
     bool is_open = open_one(worker, &listeners[0], PEER_LISTENER, listen_at(set->listen));
@@ -63,6 +77,7 @@ static void end_reader(reader *it) {
 }
 
 void listener_tick(worker *worker) {
+    page_tick(worker);
     for (size_t at = 0; at < LISTENERS && pause_until != 0 && worker->now > pause_until; at++)
         if (listeners[at].fd >= 0)
             peer_watch(worker, &listeners[at], EPOLLIN);
@@ -127,14 +142,50 @@ void listener_given(worker *worker) {
         client_begin(worker, fd);
 }
 
+static void write_health(const worker *worker, buffer *out) {
+    buffer_print(out, "%zu of %d slots have a node\n", worker->map.slots, SLOTROUTE_SLOTS);
+}
+
+/* What can be read at the port of figures. */
+static const struct page {
+    const char *path, *type;
+    void (*write)(const worker *worker, buffer *out);
+} pages[] = {
+    {"/", "text/html; charset=utf-8", page_write},
+    {"/metrics", "text/plain; version=0.0.4", figures_write},
+    {"/healthz", "text/plain", write_health},
+    {"/readyz", "text/plain", write_health},
+};
+
+/* The page of a path, or NULL. */
+static const struct page *page_of(const char *path) {
+    for (size_t at = 0; at < sizeof pages / sizeof *pages; at++)
+        if (strcmp(path, pages[at].path) == 0)
+            return &pages[at];
+    return NULL;
+}
+
 /* Answers once the request has come whole. */
-static void answer(reader *it) {
+static void answer(const worker *worker, reader *it) {
+    char method[5] = "", path[16] = "";
     buffer text = {0};
-    stats_prometheus(&text);
+    buffer_put(&it->in, "", 1);
+    sscanf((const char *)buffer_at(&it->in), "%4[A-Z] %15[^ ?\r\n]", method, path);
+    bool is_head = strcmp(method, "HEAD") == 0;
+    const struct page *page = is_head || strcmp(method, "GET") == 0 ? page_of(path) : NULL;
+    bool is_bad = strcmp(path, "/readyz") == 0 && !figures_is_ready(worker);
+    if (page == NULL)
+        buffer_text(&text, "no such page\n");
+    else
+        page->write(worker, &text);
     buffer_print(&it->out,
-                 "HTTP/1.0 200 OK\r\nContent-Type: text/plain; version=0.0.4\r\nContent-Length: %zu\r\n\r\n",
-                 buffer_len(&text));
-    buffer_put(&it->out, buffer_at(&text), buffer_len(&text));
+                 "HTTP/1.0 %s\r\nContent-Type: %s\r\nContent-Length: %zu\r\nCache-Control: no-store\r\n\r\n",
+                 page == NULL ? "404 Not Found"
+                 : is_bad     ? "503 Service Unavailable"
+                              : "200 OK",
+                 page == NULL ? "text/plain" : page->type, buffer_len(&text));
+    if (!is_head)
+        buffer_put(&it->out, buffer_at(&text), buffer_len(&text));
     buffer_free(&text);
 }
 
@@ -151,7 +202,7 @@ void reader_event(worker *worker, peer *peer, uint32_t events) {
         }
         if (buffer_len(&it->in) >= 4 &&
             memmem(buffer_at(&it->in), buffer_len(&it->in), "\r\n\r\n", 4) != NULL)
-            answer(it);
+            answer(worker, it);
     }
     bool has_answer = buffer_len(&it->out) > 0;
     if ((events & (EPOLLERR | EPOLLHUP)) != 0 || peer_write(peer, &it->out) < 0 ||

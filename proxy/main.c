@@ -1,8 +1,11 @@
 /* A proxy before a Redis cluster: clients speak to it as to one server. README.md says what it does. */
 #include "commands.h"
 #include "listener.h"
+#include "tls.h"
 #include "worker.h"
 
+#include <errno.h>
+#include <fcntl.h>
 #include <pthread.h>
 #include <signal.h>
 #include <stdarg.h>
@@ -53,18 +56,6 @@ void warn(const char *format, ...) {
     va_end(words);
 }
 
-/* SIGTERM and SIGINT come to this thread alone. The second one ends the program at once. */
-static void *wait_for_signals(void *given) {
-    int signal = 0;
-    for (int count = 1;; count++) {
-        if (sigwait(given, &signal) != 0)
-            continue;
-        say("signal %d: %s", signal, count == 1 ? "open requests are finished" : "the end");
-        atomic_store(&the_proxy.draining, count);
-    }
-    return NULL;
-}
-
 static void raise_limits(void) {
     struct rlimit limit;
     rlim_t wanted = 2 * the_proxy.settings.max_clients + 1024; /* some have a connection to a node, too */
@@ -77,6 +68,53 @@ static void raise_limits(void) {
     if (limit.rlim_cur < the_proxy.settings.max_clients + 256)
         warn("there are only %llu descriptors for %llu clients", (unsigned long long)limit.rlim_cur,
              (unsigned long long)the_proxy.settings.max_clients);
+}
+
+/* Has standard error go to the file that `log` names. Threads may write meanwhile: then it goes to either. */
+static bool open_log(void) {
+    const char *path = the_proxy.settings.log;
+    int fd = path == NULL ? STDERR_FILENO : open(path, O_WRONLY | O_APPEND | O_CREAT | O_CLOEXEC, 0640);
+    if (fd < 0 || dup2(fd, STDERR_FILENO) < 0) {
+        warn("%s: %s", path, strerror(errno));
+        return false;
+    }
+    if (fd != STDERR_FILENO)
+        close(fd);
+    return true;
+}
+
+/* The words that the program was started with. */
+static int word_count;
+static char **all_words;
+
+/* Signals come to this thread alone. The second one that ends the program does so at once. */
+static void *wait_for_signals(void *given) {
+    int signal = 0;
+    for (;;) {
+        if (sigwait(given, &signal) != 0)
+            continue;
+        if (signal == SIGTERM || signal == SIGINT) {
+            int count = atomic_fetch_add(&the_proxy.draining, 1);
+            say("signal %d: %s", signal, count == 0 ? "open requests are finished" : "the end");
+        } else if (signal == SIGHUP) {
+            open_log();
+            settings_renew(&the_proxy.settings, word_count, all_words);
+            tls_start();
+            raise_limits();
+        } else {
+            say("signal %d: it does nothing", signal);
+        }
+    }
+    return NULL;
+}
+
+static void block_signals(sigset_t *signals) {
+    static const int all[] = {SIGTERM, SIGINT, SIGHUP, SIGUSR1, SIGUSR2};
+    signal(SIGPIPE, SIG_IGN);
+    sigemptyset(signals);
+    for (size_t at = 0; at < sizeof all / sizeof *all; at++)
+        sigaddset(signals, all[at]);
+    pthread_sigmask(SIG_BLOCK, signals, NULL);
 }
 
 /* Waits for the first map. False if no node gives one in time. */
@@ -116,14 +154,12 @@ static bool run(void) {
 int main(int count, char **words) {
     static sigset_t signals;
     pthread_t waiter;
+    word_count = count;
+    all_words = words;
+    block_signals(&signals);
     commands_start();
-    if (!settings_read(&the_proxy.settings, count, words))
+    if (!settings_read(&the_proxy.settings, count, words) || !open_log() || !tls_start())
         return 2;
-    signal(SIGPIPE, SIG_IGN);
-    sigemptyset(&signals);
-    sigaddset(&signals, SIGTERM);
-    sigaddset(&signals, SIGINT);
-    pthread_sigmask(SIG_BLOCK, &signals, NULL);
     raise_limits();
     the_proxy.start = clock_now();
     for (unsigned at = 0; at < the_proxy.settings.threads; at++) {

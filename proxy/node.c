@@ -7,6 +7,7 @@
 #include "private.h"
 #include "request.h"
 #include "subscription.h"
+#include "tls.h"
 #include "topology.h"
 #include "transaction.h"
 
@@ -38,7 +39,8 @@ node *node_at(worker *worker, const char *host, uint16_t port) {
     node *it = node_new(worker, host, port);
     it->is_private = false;
     it->number = (uint16_t)worker->node_count;
-    worker->nodes[worker->node_count++] = it;
+    worker->nodes[it->number] = it;
+    worker->node_count++; /* from now on other threads may read its figures */
     return it;
 }
 
@@ -95,6 +97,7 @@ void node_ask(node *it, const void *bytes, size_t len, waiter waiter) {
     node_send(it, bytes, len);
     it->queue[(it->first + it->count++) % it->room] = waiter;
     it->asked++;
+    figure_add(&it->figures[NODE_REQUESTS], 1);
 }
 
 /* Gives a reply to who waits for it. */
@@ -161,8 +164,7 @@ void node_event(node *it, uint32_t events) {
     if (it->lost != NULL || it->state == NODE_CLOSED)
         return;
     if (it->state == NODE_OPENING) {
-        if (events & (EPOLLOUT | EPOLLERR | EPOLLHUP))
-            node_finish_opening(it);
+        node_finish_opening(it);
         return;
     }
     if (events & EPOLLOUT)
@@ -170,7 +172,7 @@ void node_event(node *it, uint32_t events) {
     if ((events & (EPOLLIN | EPOLLERR | EPOLLHUP)) == 0)
         return;
     arrived found = peer_read(it->worker, &it->peer, &it->in);
-    if (found.is_end || found.is_broken) {
+    if ((found.is_end && found.fresh == 0) || found.is_broken) { /* what came before the end counts */
         node_doom(it, found.is_end ? "the node closed the connection" : strerror(errno));
         return;
     }
@@ -203,9 +205,11 @@ static void lose(node *it) {
         report_loss(it);
     if (it->peer.fd >= 0) {
         setsockopt(it->peer.fd, SOL_SOCKET, SO_LINGER, &reset, sizeof reset);
+        tls_free(&it->peer);
         close(it->peer.fd);
     }
     figure_add(&it->worker->stats.counts[COUNT_NODES_LOST], 1);
+    figure_add(&it->figures[NODE_LOST], 1);
     buffer_free(&it->in);
     buffer_free(&it->out);
     it->peer = (peer){.kind = PEER_NODE, .fd = -1};
@@ -275,6 +279,7 @@ void node_tick(node *it) {
 void node_end(node *it) {
     if (it->three != NULL)
         node_end(it->three);
+    tls_free(&it->peer);
     if (it->peer.fd >= 0)
         close(it->peer.fd);
     for (size_t at = 0; at < it->count; at++) { /* what waits is of clients that have gone */

@@ -1,6 +1,7 @@
 #include "node.h"
 
 #include "peer.h"
+#include "tls.h"
 
 #include <errno.h>
 #include <netdb.h>
@@ -32,9 +33,7 @@ void node_open(node *it) {
 }
 
 /* Sends the password, or asks for version 3. Nothing else is sent before the reply. */
-static void log_in(node *it) {
-    const settings *set = &the_proxy.settings;
-    const char *user = set->node_user, *password = set->node_password;
+static void log_in(node *it, const char *user, const char *password) {
     buffer words = {0};
     if (it->is_three && user == NULL)
         user = "default";
@@ -54,7 +53,7 @@ static void log_in(node *it) {
     it->count++;
     it->asked++;
     it->state = NODE_LOGIN;
-    if (send(it->peer.fd, buffer_at(&words), buffer_len(&words), MSG_NOSIGNAL) != (ssize_t)buffer_len(&words))
+    if (peer_write(&it->peer, &words) < 0 || buffer_len(&words) > 0)
         node_doom(it, "the password could not be sent");
     buffer_free(&words);
 }
@@ -71,14 +70,22 @@ void node_become_open(node *it) {
 }
 
 void node_finish_opening(node *it) {
+    const char *password = the_proxy.settings.node_password, *why = NULL;
     int fault = 0;
     socklen_t len = sizeof fault;
     getsockopt(it->peer.fd, SOL_SOCKET, SO_ERROR, &fault, &len);
-    it->heard = it->worker->now;
+    if (it->peer.tls == NULL)
+        it->heard = it->worker->now;
+    bool is_right = fault == 0 && (it->peer.tls != NULL || tls_begin(&it->peer));
+    int shaken = is_right ? tls_shake(it->worker, &it->peer, &why) : -1;
     if (fault != 0)
         node_doom(it, strerror(fault));
-    else if (the_proxy.settings.node_password != NULL || it->is_three)
-        log_in(it);
+    else if (shaken < 0)
+        node_doom(it, why != NULL ? why : "TLS: the handshake was not finished");
+    else if (shaken == 0)
+        return;
+    else if (password != NULL || it->is_three)
+        log_in(it, the_proxy.settings.node_user, password);
     else
         node_become_open(it);
 }

@@ -46,8 +46,10 @@ void own_wrong_count(client *client, word name) {
 
 /* Compares in a time that does not depend on where they differ. */
 static bool is_password(word given) {
-    const char *wanted = the_proxy.settings.password;
-    size_t len = strlen(wanted);
+    const char *wanted = the_proxy.settings.password; /* it may just have been taken away */
+    size_t len = wanted == NULL ? 0 : strlen(wanted);
+    if (wanted == NULL)
+        return true;
     unsigned differs = given.len != len;
     for (size_t at = 0; at < given.len; at++)
         differs |= (unsigned)(given.text[at] ^ wanted[at < len ? at : 0]);

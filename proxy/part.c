@@ -62,7 +62,8 @@ static void unqueue(client *client, size_t reply_len) {
     client->kept -= it->kept;
     client->is_alone = false;
     client->reply_len = (7 * client->reply_len + reply_len) / 8;
-    stats_took(&client->worker->stats, client->worker->now - it->start);
+    if (!it->is_private) /* those wait for as long as others like */
+        stats_took(&client->worker->stats, client->worker->now - it->start);
     request_free(it);
 }
 
@@ -118,8 +119,8 @@ void part_fail(request *it, uint32_t at, const char *text) {
 
 void part_fail_at(request *it, uint32_t at, const node *node, const char *why, bool was_sent) {
     char text[HOST_ROOM + 256];
-    snprintf(text, sizeof text, "ERR node %s:%u: %s; %s %s", node->host, node->port, why,
-             it->parts > 1 ? "its part of the command" : "the command",
+    snprintf(text, sizeof text, "%s node %s:%u: %s; %s %s", was_sent ? "UNCERTAIN" : "ERR", node->host,
+             node->port, why, it->parts > 1 ? "its part of the command" : "the command",
              was_sent ? "may have taken effect" : "did not take effect");
     if (was_sent)
         figure_add(&it->client->worker->stats.counts[COUNT_UNKNOWN_END], 1);
@@ -150,6 +151,7 @@ void part_reply(request *it, uint32_t at, node *from, const uint8_t *reply, size
     } else if (it->is_transaction ? !transaction_follow(it, at, from, reply, len)
                                   : !redirect_follow(it, at, from, reply, len)) {
         figure_add(&from->worker->stats.counts[COUNT_NODE_ERRORS], 1);
+        figure_add(&from->figures[NODE_ERRORS], 1);
         part_finish(it, at, reply, len);
     }
     if (client != NULL && client->held > 0)

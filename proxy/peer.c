@@ -1,5 +1,7 @@
 #include "peer.h"
 
+#include "tls.h"
+
 #include <errno.h>
 #include <fcntl.h>
 #include <netdb.h>
@@ -47,9 +49,9 @@ arrived peer_read(worker *worker, const peer *peer, buffer *in) {
         room = room > 16 * READ_ROOM ? 16 * READ_ROOM : room;
         into = buffer_room(in, room);
     }
-    ssize_t count = read(peer->fd, into, room);
+    ssize_t count = peer->tls == NULL ? read(peer->fd, into, room) : tls_read(peer, into, room, &it.is_end);
     it.fresh = count > 0 ? (size_t)count : 0;
-    it.is_end = count == 0;
+    it.is_end |= count == 0;
     it.is_broken = count < 0 && errno != EAGAIN && errno != EINTR;
     if (it.is_kept)
         in->end += it.fresh;
@@ -68,7 +70,8 @@ void peer_keep(const arrived *arrived, buffer *in, size_t used) {
 int64_t peer_write(const peer *peer, buffer *out) {
     int64_t written = 0;
     while (buffer_len(out) > 0) {
-        ssize_t count = send(peer->fd, buffer_at(out), buffer_len(out), MSG_NOSIGNAL);
+        ssize_t count = peer->tls == NULL ? send(peer->fd, buffer_at(out), buffer_len(out), MSG_NOSIGNAL)
+                                          : tls_write(peer, buffer_at(out), buffer_len(out));
         if (count < 0 && errno == EINTR)
             continue;
         if (count < 0)

@@ -31,6 +31,7 @@ typedef enum peer_kind {
 typedef struct peer {
     peer_kind kind;
     int fd;
+    struct ssl_st *tls; /* NULL if it speaks without TLS */
     uint32_t events;
     bool is_watched;
 } peer;
@@ -149,6 +150,7 @@ struct node {
     bool is_numbered; /* it has a number in cursors of SCAN */
     uint32_t scan_number;
     bool is_new; /* what it owes was asked for since the last write */
+    _Atomic uint64_t figures[NODE_FIGURES];
 };
 
 /* Where slots are. */
@@ -161,6 +163,7 @@ typedef struct topology {
     size_t primary_count, all_count, slots, next_any, next_asked, tries;
     bool has_map, is_wanted, is_asked;
     uint64_t number, asked_at, next_at; /* of the map that is asked for */
+    uint64_t read_at;                   /* when the last one was read */
     char why[192];                      /* why there is no map */
 } topology;
 
@@ -175,7 +178,7 @@ struct worker {
     uint64_t now, next_tick;
     topology map;
     node *nodes[MOST_NODES];
-    size_t node_count;
+    _Atomic size_t node_count; /* other threads read the figures of these nodes */
     client *clients, *dirty_clients, *troubled, *dead;
     node *dirty_nodes, *left; /* left: given up by the clients that had them alone */
     bool is_draining, is_pressed;

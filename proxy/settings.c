@@ -1,14 +1,15 @@
 #include "settings.h"
 
 #include "commands.h"
-#include "layer.h"
+#include "proxy.h"
 
 #include <errno.h>
 #include <stdio.h>
 #include <stdlib.h>
 #include <string.h>
 
-typedef enum kind { TEXT, NUMBER, SIZE, SWITCH, SEED, NAME } kind;
+/* SECRET: a text that is the first line of a file. */
+typedef enum kind { TEXT, SECRET, NUMBER, SIZE, SWITCH, SEED, NAME } kind;
 
 typedef struct row {
     const char *name, *says;
@@ -19,14 +20,24 @@ typedef struct row {
 
 #define AT(field) offsetof(settings, field)
 static const row rows[] = {
-    {"node", "HOST:PORT of a node; may be given several times", SEED, 0, 0, 0},
+    {"node", "HOST:PORT of a node; may be given several times", SEED, AT(seeds), 0, 0},
     {"take", "NAME of a module's command on one key; may be given several times", NAME, 0, 0, 0},
     {"listen", "ADDR:PORT for clients (127.0.0.1:6380)", TEXT, AT(listen), 0, 0},
     {"unix", "PATH of a socket for clients", TEXT, AT(unix_path), 0, 0},
-    {"metrics", "ADDR:PORT of figures for Prometheus", TEXT, AT(metrics), 0, 0},
+    {"metrics", "ADDR:PORT of figures, by HTTP", TEXT, AT(metrics), 0, 0},
+    {"log", "PATH of the log (standard error)", TEXT, AT(log), 0, 0},
     {"threads", "how many event loops (1)", NUMBER, AT(threads), 1, MOST_THREADS},
+    {"tls", "clients speak TLS", SWITCH, AT(tls), 0, 0},
+    {"node-tls", "nodes speak TLS", SWITCH, AT(node_tls), 0, 0},
+    {"tls-cert", "PATH of the certificate, for clients and nodes", TEXT, AT(tls_cert), 0, 0},
+    {"tls-key", "PATH of its key", TEXT, AT(tls_key), 0, 0},
+    {"tls-ca", "PATH of the certificates of authorities (those of the system)", TEXT, AT(tls_ca), 0, 0},
+    {"tls-auth-clients", "clients need a certificate", SWITCH, AT(tls_auth_clients), 0, 0},
+    {"node-tls-name", "NAME that each node's certificate has to have", TEXT, AT(node_tls_name), 0, 0},
     {"password", "that clients need", TEXT, AT(password), 0, 0},
+    {"password-file", "PATH of a file with that password", SECRET, AT(password), 0, 0},
     {"node-password", "that nodes need", TEXT, AT(node_password), 0, 0},
+    {"node-password-file", "PATH of a file with that password", SECRET, AT(node_password), 0, 0},
     {"node-user", "that nodes know", TEXT, AT(node_user), 0, 0},
     {"max-clients", "how many clients at most (10000)", NUMBER, AT(max_clients), 1, 1000000},
     {"max-message", "bytes of a request at most (64mb)", SIZE, AT(max_message), 1024, 1ULL << 32},
@@ -42,7 +53,42 @@ static const row rows[] = {
      AT(split_transactions), 0, 0},
     {"quiet", "log only errors", SWITCH, AT(quiet), 0, 0},
 };
-enum { ROWS = sizeof rows / sizeof *rows };
+enum { ROWS = sizeof rows / sizeof *rows, FIXED = 9 }; /* the first ones are read at the start alone */
+enum { LONGEST_SECRET = 4096 };
+
+/* What is wrong with the settings, and whether they are read for another time. */
+static char fault[500];
+static bool is_again;
+
+/* A text that settings point to. It stays in memory, once, since a thread may read it at any time. */
+typedef struct kept {
+    struct kept *next;
+    char text[];
+} kept;
+
+static const char *keep(const char *text) {
+    static kept *all;
+    for (const kept *at = all; at != NULL; at = at->next)
+        if (strcmp(at->text, text) == 0)
+            return at->text;
+    kept *it = malloc(sizeof *it + strlen(text) + 1);
+    if (it == NULL)
+        abort();
+    it->next = all;
+    all = it;
+    return strcpy(it->text, text);
+}
+
+/* The first line of a file, or NULL. */
+static const char *read_secret(const char *path) {
+    static char line[LONGEST_SECRET];
+    FILE *file = fopen(path, "r");
+    const char *found = file == NULL ? NULL : fgets(line, sizeof line, file);
+    if (file != NULL)
+        fclose(file);
+    line[strcspn(line, "\r\n")] = 0;
+    return found;
+}
 
 /* Reads a number, for a size with a unit. */
 static bool read_number(const row *row, const char *value, uint64_t *number) {
@@ -74,30 +120,39 @@ static bool is_address(const char *value) {
     return *end == 0 && port > 0 && port < 65536;
 }
 
-/* Sets a value, which has to stay in memory. Returns what is wrong, or NULL. */
+static const char *set_text(text *field, const char *value) {
+    if (value == NULL)
+        return "is no file with a line";
+    *field = keep(value);
+    return *value == 0 ? "is empty" : NULL;
+}
+
+/* Sets a value. Returns what is wrong, or NULL. */
 static const char *set(settings *settings, const row *row, const char *value) {
-    char *field = (char *)settings + row->at;
+    void *field = (char *)settings + row->at;
     bool is_place =
         row->kind == SEED || strcmp(row->name, "listen") == 0 || strcmp(row->name, "metrics") == 0;
+    uint64_t found = 0;
     if (is_place && !is_address(value))
         return "is not HOST:PORT";
     if (row->kind == SEED) {
         if (settings->seed_count == MOST_SEEDS)
             return "is one node too many";
-        settings->seeds[settings->seed_count++] = value;
+        settings->seeds[settings->seed_count++] = keep(value);
         return NULL;
     }
     if (row->kind == NAME)
-        return commands_take(value);
-    if (row->kind == TEXT) {
-        memcpy(field, &value, sizeof value);
-        return *value == 0 ? "is empty" : NULL;
-    }
+        return is_again ? NULL : commands_take(value);
+    if (row->kind == TEXT || row->kind == SECRET)
+        return set_text(field, row->kind == TEXT ? value : read_secret(value));
     if (row->kind == SWITCH) {
-        *(bool *)(void *)field = strcmp(value, "yes") == 0;
+        *(number *)field = strcmp(value, "yes") == 0;
         return strcmp(value, "yes") == 0 || strcmp(value, "no") == 0 ? NULL : "is neither yes nor no";
     }
-    return read_number(row, value, (uint64_t *)(void *)field) ? NULL : "is not a number in its range";
+    if (!read_number(row, value, &found))
+        return "is not a number in its range";
+    *(number *)field = found;
+    return NULL;
 }
 
 static const row *find(const char *name) {
@@ -124,38 +179,20 @@ static const char *read_line(settings *settings, char *line) {
     return row == NULL ? "is no setting" : set(settings, row, value);
 }
 
-/* A line of a file. Settings point into it, so it stays in memory. */
-typedef struct kept {
-    struct kept *next;
-    char line[];
-} kept;
-
-static kept *all_kept;
-
-static char *keep(const char *line) {
-    kept *it = malloc(sizeof *it + strlen(line) + 1);
-    if (it == NULL)
-        abort();
-    it->next = all_kept;
-    all_kept = it;
-    return strcpy(it->line, line);
-}
-
 static bool read_file(settings *settings, const char *path) {
     FILE *file = fopen(path, "r");
     if (file == NULL) {
-        fprintf(stderr, "%s: %s\n", path, strerror(errno));
+        snprintf(fault, sizeof fault, "%s: %s", path, strerror(errno));
         return false;
     }
     size_t number = 0, room = 0;
     char *line = NULL;
     const char *wrong = NULL;
     while (wrong == NULL && getline(&line, &room, file) > 0) {
-        char *text = keep(line);
         number++;
-        wrong = read_line(settings, text);
+        wrong = read_line(settings, line);
         if (wrong != NULL)
-            fprintf(stderr, "%s:%zu: %s %s\n", path, number, text + strspn(text, " \t"), wrong);
+            snprintf(fault, sizeof fault, "%s:%zu: %s %s", path, number, line + strspn(line, " \t"), wrong);
     }
     free(line);
     fclose(file);
@@ -165,9 +202,9 @@ static bool read_file(settings *settings, const char *path) {
 static void print_usage(FILE *file) {
     fprintf(file, "Usage: slotroute-proxy --node HOST:PORT [--FLAG VALUE ..] [--config FILE]\n\n");
     for (size_t at = 0; at < ROWS; at++)
-        fprintf(file, "  --%-15s %s\n", rows[at].name, rows[at].says);
-    fprintf(file, "  --%-15s a file with a line `name value` for each of these\n", "config");
-    fprintf(file, "  --%-15s print the version\n", "version");
+        fprintf(file, "  --%-18s %s\n", rows[at].name, rows[at].says);
+    fprintf(file, "  --%-18s a file with a line `name value` for each of these\n", "config");
+    fprintf(file, "  --%-18s print the version\n", "version");
 }
 
 /* Reads one flag at `at`, and returns how many words it takes, or 0 if it is wrong. */
@@ -194,13 +231,21 @@ static int read_flag(settings *settings, int count, char **words, int at) {
                                         : set(settings, row, value);
     if (wrong == NULL)
         return 2;
-    fprintf(stderr, "%s %s %s\n", name, row != NULL && value != NULL ? value : "", wrong);
+    snprintf(fault, sizeof fault, "%s %s %s", name, row != NULL && value != NULL ? value : "", wrong);
     return 0;
 }
 
-bool settings_read(settings *settings, int count, char **words) {
+static const char *from_environment(const char *name) {
+    const char *value = getenv(name);
+    return value == NULL || *value == 0 ? NULL : keep(value);
+}
+
+/* Reads all. The environment has less weight than flags and the file. */
+static bool read_all(settings *settings, int count, char **words) {
     *settings = (struct settings){
-        .listen = "127.0.0.1:6380",
+        .listen = keep("127.0.0.1:6380"),
+        .password = from_environment("SLOTROUTE_PASSWORD"),
+        .node_password = from_environment("SLOTROUTE_NODE_PASSWORD"),
         .threads = 1,
         .max_clients = 10000,
         .max_message = 64 << 20,
@@ -217,9 +262,44 @@ bool settings_read(settings *settings, int count, char **words) {
         if (took == 0)
             return false;
     }
-    if (settings->seed_count == 0) {
+    if (settings->seed_count == 0)
+        snprintf(fault, sizeof fault, "no node is named");
+    return settings->seed_count > 0;
+}
+
+bool settings_read(settings *settings, int count, char **words) {
+    if (read_all(settings, count, words))
+        return true;
+    if (settings->seed_count == 0 && count == 1)
         print_usage(stderr);
-        return false;
+    else
+        fprintf(stderr, "%s\n", fault);
+    return false;
+}
+
+/* Takes the value of one row, if it may change. */
+static void renew(settings *settings, const struct settings *from, const row *row) {
+    void *field = (char *)settings + row->at;
+    const void *found = (const char *)from + row->at;
+    if (row->kind == NAME ||
+        memcmp(field, found, row->kind == SEED ? sizeof from->seeds : sizeof(number)) == 0)
+        return;
+    if (row < rows + FIXED)
+        warn("%s stays as it was at the start", row->name);
+    else if (row->kind == TEXT || row->kind == SECRET)
+        *(text *)field = *(const text *)found;
+    else
+        *(number *)field = *(const number *)found;
+}
+
+void settings_renew(settings *settings, int count, char **words) {
+    struct settings found;
+    is_again = true;
+    if (!read_all(&found, count, words)) {
+        warn("the settings stay as they are: %s", fault);
+        return;
     }
-    return true;
+    for (size_t at = 0; at < ROWS; at++)
+        renew(settings, &found, &rows[at]);
+    say("the settings were read anew");
 }

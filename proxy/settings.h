@@ -2,25 +2,35 @@
 #ifndef PROXY_SETTINGS_H
 #define PROXY_SETTINGS_H
 
+#include <stdatomic.h>
 #include <stdbool.h>
 #include <stddef.h>
 #include <stdint.h>
 
 enum { MOST_SEEDS = 64, MOST_THREADS = 64 };
 
+typedef const char *_Atomic text;
+typedef _Atomic uint64_t number;
+
+/* Threads read them while settings_renew may change some. A text stays in memory. NULL: it is not set. */
 typedef struct settings {
     const char *seeds[MOST_SEEDS]; /* HOST:PORT of nodes that are asked for the first map */
     size_t seed_count;
-    const char *listen, *unix_path, *metrics;         /* where clients connect to */
-    const char *password, *node_password, *node_user; /* NULL if there is none */
-    uint64_t threads, max_clients;
-    uint64_t max_message, max_reply;                /* bytes of a request, of a reply */
-    uint64_t client_memory, memory;                 /* bytes that one client, and all, may take */
-    uint64_t timeout, retry, client_timeout, drain; /* milliseconds */
-    bool quiet, split_transactions;
+    text listen, unix_path, metrics; /* where clients connect to */
+    text log;
+    text password, node_password, node_user;
+    text tls_cert, tls_key, tls_ca, node_tls_name;
+    number threads, max_clients;
+    number max_message, max_reply;                 /* bytes of a request, of a reply */
+    number client_memory, memory;                  /* bytes that one client, and all, may take */
+    number timeout, retry, client_timeout, drain;  /* milliseconds */
+    number quiet, split_transactions, tls, tls_auth_clients, node_tls; /* 0 or 1 */
 } settings;
 
 /* Reads flags, and the file that --config names. Prints what is wrong and returns false. */
 bool settings_read(settings *settings, int count, char **words);
+
+/* Reads them again, and takes those that may change. If one is wrong, all stay, and the log says why. */
+void settings_renew(settings *settings, int count, char **words);
 
 #endif

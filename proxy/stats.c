@@ -1,5 +1,6 @@
 #include "proxy.h"
 
+#include <ctype.h>
 #include <string.h>
 
 typedef struct row {
@@ -47,6 +48,23 @@ void stats_took(stats *stats, uint64_t microseconds) {
     figure_add(&stats->took_sum, microseconds);
 }
 
+void stats_command(stats *stats, size_t number) {
+    figure_add(&stats->counts[COUNT_COMMANDS], 1);
+    figure_add(&stats->commands[number], 1);
+}
+
+void stats_refused(stats *stats, const char *name) {
+    size_t count = stats->refused_count, at = 1;
+    while (at < count && strcasecmp(stats->refused[at].name, name) != 0)
+        at++;
+    if (at >= count && at < MOST_REFUSED) {
+        for (size_t place = 0; name[place] != 0 && place + 1 < REFUSED_NAME; place++)
+            stats->refused[at].name[place] = (char)toupper((unsigned char)name[place]);
+        stats->refused_count = at + 1; /* from now on other threads may read the name */
+    }
+    figure_add(&stats->refused[at < MOST_REFUSED ? at : 0].count, 1);
+}
+
 static uint64_t sum_of(size_t offset) {
     uint64_t sum = 0;
     for (uint64_t at = 0; at < the_proxy.settings.threads; at++)
@@ -57,7 +75,7 @@ static uint64_t sum_of(size_t offset) {
 
 uint64_t stats_count(counter counter) { return sum_of(offsetof(stats, counts) + counter * sizeof(uint64_t)); }
 
-static uint64_t took_of(size_t step) { return sum_of(offsetof(stats, took) + step * sizeof(uint64_t)); }
+uint64_t stats_took_sum(size_t step) { return sum_of(offsetof(stats, took) + step * sizeof(uint64_t)); }
 
 void stats_info(buffer *out) {
     buffer_text(out, "# Stats\r\n");
@@ -66,24 +84,25 @@ void stats_info(buffer *out) {
             buffer_print(out, "%s:%llu\r\n", rows[at].info, (unsigned long long)stats_count(at));
     buffer_text(out, "\r\n# Latency, commands that took less than so many microseconds\r\n");
     for (size_t at = 0; at + 1 < LATENCY_STEPS; at++)
-        if (took_of(at) > 0)
-            buffer_print(out, "below_%llu:%llu\r\n", 1ULL << at, (unsigned long long)took_of(at));
-    if (took_of(LATENCY_STEPS - 1) > 0)
-        buffer_print(out, "above:%llu\r\n", (unsigned long long)took_of(LATENCY_STEPS - 1));
+        if (stats_took_sum(at) > 0)
+            buffer_print(out, "below_%llu:%llu\r\n", 1ULL << at, (unsigned long long)stats_took_sum(at));
+    if (stats_took_sum(LATENCY_STEPS - 1) > 0)
+        buffer_print(out, "above:%llu\r\n", (unsigned long long)stats_took_sum(LATENCY_STEPS - 1));
+}
+
+void stats_head(buffer *out, const char *name, const char *type, const char *says) {
+    buffer_print(out, "# HELP slotroute_proxy_%s %s\n# TYPE slotroute_proxy_%s %s\n", name, says, name, type);
 }
 
 void stats_prometheus(buffer *out) {
     for (counter at = 0; at < COUNTERS; at++) {
-        buffer_print(out, "# HELP slotroute_proxy_%s %s\n", rows[at].name, rows[at].says);
-        buffer_print(out, "# TYPE slotroute_proxy_%s %s\n", rows[at].name, rows[at].type);
+        stats_head(out, rows[at].name, rows[at].type, rows[at].says);
         buffer_print(out, "slotroute_proxy_%s %llu\n", rows[at].name, (unsigned long long)stats_count(at));
     }
     uint64_t below = 0;
-    buffer_text(
-        out,
-        "# HELP slotroute_proxy_seconds how long commands took\n# TYPE slotroute_proxy_seconds histogram\n");
+    stats_head(out, "seconds", "histogram", "how long commands took, except those that wait");
     for (size_t at = 0; at < LATENCY_STEPS; at++) {
-        below += took_of(at);
+        below += stats_took_sum(at);
         if (at + 1 < LATENCY_STEPS)
             buffer_print(out, "slotroute_proxy_seconds_bucket{le=\"%g\"} %llu\n", (double)(1ULL << at) / 1e6,
                          (unsigned long long)below);

@@ -3,6 +3,7 @@
 #define PROXY_STATS_H
 
 #include "buffer.h"
+#include "commands.h"
 
 #include <stdatomic.h>
 
@@ -34,10 +35,37 @@ typedef enum counter {
 
 enum { LATENCY_STEPS = 24 }; /* step i has what took less than 2^i microseconds, the last one the rest */
 
+/* What is counted of a connection to a node that clients share. Those from IN_FLIGHT on are set at each tick.
+ */
+typedef enum node_figure {
+    NODE_REQUESTS,
+    NODE_ERRORS, /* that clients got */
+    NODE_LOST,   /* connections that ended */
+    NODE_IN_FLIGHT,
+    NODE_OPEN_NOW,
+    NODE_DOWN, /* the last connection failed */
+    NODE_IN_MAP,
+    NODE_SLOTS, /* the first thread alone sets these two */
+    NODE_NUMBER,
+    NODE_FIGURES
+} node_figure;
+
+/* Names that were refused: the first ones, since clients can make up any number. The first of these stands
+ * for all others. */
+enum { MOST_REFUSED = 64, REFUSED_NAME = 32 };
+
+typedef struct refused {
+    char name[REFUSED_NAME];
+    _Atomic uint64_t count;
+} refused;
+
 typedef struct stats {
     _Atomic uint64_t counts[COUNTERS];
     _Atomic uint64_t took[LATENCY_STEPS];
     _Atomic uint64_t took_sum; /* microseconds */
+    _Atomic uint64_t commands[COMMANDS + 1];
+    refused refused[MOST_REFUSED];
+    _Atomic size_t refused_count;
 } stats;
 
 /* Only the thread of the figures writes them, so a sum needs no lock. */
@@ -46,17 +74,28 @@ static inline void figure_add(_Atomic uint64_t *figure, uint64_t more) {
     atomic_store_explicit(figure, old + more, memory_order_relaxed);
 }
 
+static inline void figure_set(_Atomic uint64_t *figure, uint64_t value) {
+    atomic_store_explicit(figure, value, memory_order_relaxed);
+}
+
 static inline uint64_t figure_read(const _Atomic uint64_t *figure) {
     return atomic_load_explicit(figure, memory_order_relaxed);
 }
 
+/* Counts how long a command took, a command by the number of its name, and a refused one by its name. */
 void stats_took(stats *stats, uint64_t microseconds);
+void stats_command(stats *stats, size_t number);
+void stats_refused(stats *stats, const char *name);
 
-/* The sum of a figure over all threads. */
+/* Sums over all threads. */
 uint64_t stats_count(counter counter);
+uint64_t stats_took_sum(size_t step);
 
-/* Writes the figures of all threads as INFO does, or for Prometheus. */
+/* Writes the sums as INFO does, or for Prometheus. */
 void stats_info(buffer *out);
 void stats_prometheus(buffer *out);
+
+/* Writes what stands before a figure for Prometheus. */
+void stats_head(buffer *out, const char *name, const char *type, const char *says);
 
 #endif

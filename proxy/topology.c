@@ -102,10 +102,14 @@ static void change_owner(worker *worker, uint16_t slot) {
 static void take_owners(worker *worker, const uint16_t *numbers, node **nodes, size_t count) {
     topology *map = &worker->map;
     map->slots = 0;
+    for (size_t at = 0; at < worker->node_count; at++)
+        figure_set(&worker->nodes[at]->figures[NODE_SLOTS], 0);
     for (size_t slot = 0; slot < SLOTROUTE_SLOTS; slot++) {
         node *owner = numbers[slot] < count ? nodes[numbers[slot]] : NULL;
         uint16_t number = owner != NULL ? owner->number : (uint16_t)SLOTROUTE_NO_NODE;
         map->slots += owner != NULL;
+        if (owner != NULL && worker->number == 0)
+            figure_add(&owner->figures[NODE_SLOTS], 1);
         if (number != map->owner[slot] && map->has_map)
             change_owner(worker, (uint16_t)slot);
         map->owner[slot] = number;
@@ -215,6 +219,7 @@ void topology_reply(node *from, uint64_t number, const uint8_t *reply, size_t le
     for (size_t at = 0; at < map->primary_count; at++)
         is_failing |= map->primaries[at]->is_failing && worker->now - map->primaries[at]->failed < RECENT;
     figure_add(&worker->stats.counts[COUNT_MAPS], 1);
+    map->read_at = worker->now;
     map->is_asked = false;
     map->is_wanted = is_failing || map->slots < SLOTROUTE_SLOTS;
     map->tries = 0;

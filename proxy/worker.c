@@ -1,6 +1,7 @@
 #include "worker.h"
 
 #include "client.h"
+#include "figures.h"
 #include "listener.h"
 #include "node.h"
 #include "order.h"
@@ -143,8 +144,10 @@ static void tick(worker *it) {
     static _Thread_local uint64_t next_slow;
     advance_troubled(it);
     topology_tick(it);
-    for (size_t at = 0; at < it->node_count; at++)
+    for (size_t at = 0; at < it->node_count; at++) {
         node_tick(it->nodes[at]);
+        figures_tick(it->nodes[at]);
+    }
     watch_memory(it);
     if (!it->is_draining && atomic_load(&the_proxy.draining) > 0)
         begin_to_drain(it);

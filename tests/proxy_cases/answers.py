@@ -317,7 +317,7 @@ def try_forged():
             pass
     unsure = figures()["unknown_ends_total"] - before["unknown_ends_total"]
     print(asked, found, unsure)
-    are_told = [it.startswith("-ERR node 127.0.0.1:") and it.endswith("; the command may have taken effect") for it in asked]
+    are_told = [it.startswith("-UNCERTAIN node 127.0.0.1:") and it.endswith("; the command may have taken effect") for it in asked]
     return are_told == [True] * 2 and found == b"3" and unsure == 2
 
 

@@ -2,18 +2,16 @@
 
 import os
 import random
-import re
 import signal
 import socket
 import socketserver
 import tempfile
 import threading
 import time
-import urllib.request
 from collections import Counter
 from contextlib import suppress
 
-from outside import FIGURES, descriptors_of, memory_of, raw, rest_of
+from outside import FIGURES, descriptors_of, figures, memory_of, raw, rest_of
 from shared import Client, FAKE, IS_CHECKED, OTHER, PORT, PROXY, is_open, others, port_of, process_of, proxy, request, said, until
 
 
@@ -169,8 +167,7 @@ def try_back():
                 it.lines.close()
                 it.socket.close()
             time.sleep(0.5)
-            text = urllib.request.urlopen(f"http://127.0.0.1:{FIGURES + 1}/").read().decode()
-            held = int(re.search(r"proxy_memory_bytes (\d+)", text).group(1))
+            held = figures(FIGURES + 1)["memory_bytes"]
             rounds.append((descriptors_of(process), held, memory_of(process)))
     print("descriptors, bytes held, kB of the process:", rounds)
     is_small = IS_CHECKED or rounds[-1][2] < rounds[0][2] * 1.3 + 2000

@@ -3,6 +3,7 @@
 import os
 import re
 import socket
+import urllib.error
 import urllib.request
 from contextlib import suppress
 
@@ -38,6 +39,18 @@ def descriptors_of(process):
     return len(os.listdir(f"/proc/{process.pid}/fd"))
 
 
-def figures():
-    text = urllib.request.urlopen(f"http://127.0.0.1:{FIGURES}/metrics", timeout=10).read().decode()
-    return {name: float(value) for name, value in re.findall(r"^slotroute_proxy_(\w+) (\S+)$", text, re.M)}
+def page(path, port=FIGURES, method="GET"):
+    """The status, the type and the text of a page at the port of figures."""
+    asked = urllib.request.Request(f"http://127.0.0.1:{port}{path}", method=method)
+    try:
+        found = urllib.request.urlopen(asked, timeout=10)
+    except urllib.error.HTTPError as error:
+        found = error
+    with found:
+        return found.status, found.headers["Content-Type"], found.read().decode()
+
+
+def figures(port=FIGURES):
+    """The figures, by their names with their labels."""
+    text = page("/metrics", port)[2]
+    return {name: float(value) for name, value in re.findall(r"^slotroute_proxy_(\S+) (\S+)$", text, re.M)}

@@ -27,6 +27,7 @@ FOLDER = f"{os.environ.get('TMPDIR', '/tmp')}/slotroute-cluster-{PORT}"
 PROGRAM = os.path.abspath(sys.argv[1])
 IS_CHECKED = PROGRAM.endswith(".checked")  # it takes more memory and time
 MOVED_SLOT = "12182"  # that of foo
+LOST = ("-ERR ", "-UNCERTAIN ")  # how errors begin whose command did not take effect, or perhaps
 
 
 class LeftOut(Exception):
@@ -146,7 +147,8 @@ def others(count, key, port=PROXY):
             own, mine = f"{key}{number}", f"{number}."
             answer, found = str(client.ask("SET", own, f"{mine}{at}")), str(client.ask("GET", own))
             is_right = answer == "+OK" and found == f"b'{mine}{at}'"
-            is_lost = "-ERR " in answer + found and found.startswith(("-ERR ", "None", f"b'{mine}"))
+            is_lost = answer.startswith(LOST) or found.startswith(LOST)
+            is_lost = is_lost and found.startswith((*LOST, "None", f"b'{mine}"))
             seen["right" if is_right else "lost" if is_lost else f"{answer}, {found}"] += 1
             seen["longest"] = max(seen["longest"], round(time.monotonic() - start, 3))
 

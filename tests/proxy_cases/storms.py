@@ -273,7 +273,7 @@ def try_blocking_hang():
         os.kill(process, signal.SIGCONT)
     took = time.monotonic() - start
     print(f"{found} after {took:.1f} s")
-    return found.startswith("-ERR") and "may have taken effect" in found and took < 12
+    return found.startswith("-UNCERTAIN") and "may have taken effect" in found and took < 12
 
 
 def try_threads():

@@ -1,0 +1,297 @@
+"""What operators do with the proxy: settings, signals, the log, secrets and figures."""
+
+import os
+import re
+import shutil
+import signal
+import socketserver
+import subprocess
+import tempfile
+import threading
+import time
+from contextlib import contextmanager, suppress
+from html.parser import HTMLParser
+
+from outside import FIGURES, figures, page
+from shared import Client, FAKE, LeftOut, OTHER, PORT, PROGRAM, ROOT, is_open, port_of, proxy, until
+
+OTHER_FIGURES = FIGURES + 1
+
+
+def read(path):
+    with suppress(OSError), open(path) as file:
+        return file.read()
+    return ""
+
+
+def write(path, text):
+    with open(path, "w") as file:
+        file.write(text)
+
+
+@contextmanager
+def run(folder, *options, **environment):
+    """A proxy with its log in a file. Gives its process and the path of the log."""
+    log = f"{folder}/proxy.log"
+    words = [PROGRAM, "--listen", f"127.0.0.1:{OTHER}", "--node", f"127.0.0.1:{PORT}", "--log", log, *options]
+    process = subprocess.Popen(words, env=os.environ | environment)
+    try:
+        until(30, lambda: process.poll() is not None or is_open(OTHER))
+        yield process, log
+    finally:
+        process.terminate()
+        if process.wait(30):
+            print(read(log)[-4000:])
+            raise AssertionError(f"the proxy ended with {process.returncode}")
+
+
+def renew(process, log):
+    """Sends SIGHUP, and gives what the log says of it."""
+    before = len(read(log))
+    process.send_signal(signal.SIGHUP)
+    until(10, lambda: re.search("read anew|stay as they are", read(log)[before:]))
+    return read(log)[before:]
+
+
+def try_renew():
+    """SIGHUP has the settings read again: limits, times, the password. If one is wrong, none changes."""
+    with tempfile.TemporaryDirectory() as folder:
+        config = f"{folder}/conf"
+        write(config, "max-message 1mb\n")
+        with run(folder, "--config", config) as (process, log):
+            old = Client(OTHER)
+            found = [old.ask("SET", "foo", "x" * 2000)]
+            write(config, "max-message 1kb\npassword secret\nthreads 2\n")
+            texts = [renew(process, log)]
+            found += [old.ask("SET", "foo", "x" * 2000)[:20], Client(OTHER).ask("GET", "foo")[:7], Client(OTHER).ask("AUTH", "secret")]
+            write(config, "max-message 2mb\npassword other\nmemory none\n")
+            texts.append(renew(process, log))
+            found += [Client(OTHER).ask("AUTH", "other")[:10], Client(OTHER).ask("AUTH", "secret")]
+            os.remove(config)
+            texts.append(renew(process, log))
+            write(config, "")
+            texts.append(renew(process, log))
+            found += [Client(OTHER).ask("SET", "foo", "x" * 2000), Client(OTHER).ask("AUTH", "secret")[:9]]
+    print(found, *texts)
+    is_told = "threads stays as it was" in texts[0] and "conf:3: memory is not a number" in texts[1] and "No such file" in texts[2]
+    wanted = ["+OK", "-ERR Protocol error:", "-NOAUTH", "+OK", "-WRONGPASS", "+OK", "+OK", "-ERR AUTH"]
+    return found == wanted and is_told and "stay" not in texts[3]
+
+
+def try_signals():
+    """SIGUSR1 and SIGUSR2 end nothing, and --version prints the version alone."""
+    version = subprocess.run([PROGRAM, "--node", "x:1", "--version"], capture_output=True, text=True)
+    with tempfile.TemporaryDirectory() as folder, run(folder) as (process, log):
+        for it in (signal.SIGUSR1, signal.SIGUSR2, signal.SIGHUP):
+            process.send_signal(it)
+        is_told = until(10, lambda: read(log).count("it does nothing") == 2 and "read anew" in read(log))
+        found = process.poll(), Client(OTHER).ask("SET", "foo", "1")
+    print(version.stdout, version.stderr, found)
+    return found == (None, "+OK") and is_told is not None and re.fullmatch(r"slotroute-proxy \d+\.\d+\.\d+\n", version.stdout) is not None
+
+
+def try_log():
+    """A log that was moved away is followed by a new one after SIGHUP, and no line is lost. A log that cannot be opened is told."""
+    wrong = subprocess.run([PROGRAM, "--node", "x:1", "--log", "/none/log"], capture_output=True, text=True)
+    with tempfile.TemporaryDirectory() as folder, run(folder) as (process, log):
+        os.rename(log, log + ".1")
+        process.send_signal(signal.SIGUSR1)
+        is_kept = until(10, lambda: "signal 10" in read(log + ".1")) is not None and not os.path.exists(log)
+        texts = renew(process, log), read(log + ".1")
+    print(wrong.returncode, wrong.stderr, *texts)
+    return is_kept and wrong.returncode == 2 and "/none/log: No such file" in wrong.stderr and "read anew" in texts[0] and "slots" in texts[1]
+
+
+def try_logrotate():
+    """The file for logrotate that the package has rotates the log."""
+    program = shutil.which("logrotate", path=os.environ["PATH"] + ":/usr/sbin")
+    if program is None or os.getuid() != 0:
+        raise LeftOut("it needs logrotate, and root")
+    with tempfile.TemporaryDirectory() as folder, run(folder) as (process, log):
+        text = read(f"{ROOT}/packaging/slotroute-proxy.logrotate").replace("/var/log/slotroute-proxy/*.log", log)
+        write(f"{folder}/conf", re.sub("(?m)^.*systemctl.*$", f"kill -HUP {process.pid}", text))
+        os.chmod(f"{folder}/conf", 0o644)
+        done = subprocess.run([program, "-f", "-s", f"{folder}/state", f"{folder}/conf"], capture_output=True, text=True)
+        is_rotated = until(10, lambda: "read anew" in read(log)) is not None
+        old = read(log + ".1")
+    print(done.returncode, done.stderr, old)
+    return done.returncode == 0 and is_rotated and "the map has" in old
+
+
+def try_secrets():
+    """Passwords come from files or the environment, so that no list of processes shows them."""
+    found = []
+    with tempfile.TemporaryDirectory() as folder:
+        write(f"{folder}/secret", "from the file\n")
+        write(f"{folder}/none", "")
+        with run(folder, "--password-file", f"{folder}/secret", SLOTROUTE_PASSWORD="unused") as (process, log):
+            found.append(Client(OTHER).ask("AUTH", "from the file"))
+            write(f"{folder}/secret", "another")
+            renew(process, log)
+            found.append(Client(OTHER).ask("AUTH", "another"))
+            is_hidden = "file\0" not in read(f"/proc/{process.pid}/cmdline").replace("-file\0", "")
+        with run(folder, SLOTROUTE_PASSWORD="from outside", SLOTROUTE_NODE_PASSWORD=""):
+            found.append(Client(OTHER).ask("AUTH", "from outside"))
+        wrong = subprocess.run([PROGRAM, "--node", "x:1", "--password-file", f"{folder}/none"], capture_output=True, text=True)
+    print(found, is_hidden, wrong.stderr)
+    return found == ["+OK"] * 3 and is_hidden and wrong.returncode == 2 and "is no file with a line" in wrong.stderr
+
+
+class Leaving(socketserver.StreamRequestHandler):
+    """A node that has the slots up to `last`, and closes the connection in place of a reply to any other question."""
+
+    last = 16383
+
+    def handle(self):
+        slots = b"*1\r\n*3\r\n:0\r\n:%d\r\n*2\r\n$9\r\n127.0.0.1\r\n:%d\r\n"
+        with suppress(OSError):  # the proxy resets the connection
+            while (line := self.rfile.readline()) and b"CLUSTER" in [(self.rfile.readline(), self.rfile.readline())[1][:-2] for _ in range(int(line[1:]))]:
+                self.wfile.write(slots % (Leaving.last, FAKE))
+
+
+def try_uncertain():
+    """An error after which a command may have taken effect begins with UNCERTAIN. Clients take it as any other error."""
+    socketserver.ThreadingTCPServer.allow_reuse_address = socketserver.ThreadingTCPServer.daemon_threads = True
+    with socketserver.ThreadingTCPServer(("127.0.0.1", FAKE), Leaving) as node:
+        threading.Thread(target=node.serve_forever).start()
+        with proxy(OTHER, FAKE, "--retry", "300"):
+            found = [Client(OTHER).ask("SET", "foo", "1"), Client(OTHER).ask("MSET", "foo", "1", "bar", "2")]
+            cli = subprocess.run(["redis-cli", "-p", str(OTHER), "set", "foo", "1"], capture_output=True, text=True, timeout=20)
+        node.shutdown()
+    print(found, cli)
+    is_sure = all(it.startswith("-UNCERTAIN node 127.0.0.1:") and it.endswith("may have taken effect") for it in found)
+    return is_sure and cli.stdout.startswith("UNCERTAIN node")
+
+
+def try_counts():
+    """There are figures of each node, of each command, and of each refused name. Clients cannot make up more than some."""
+    with proxy(OTHER, PORT, "--threads", "2", "--metrics", f"127.0.0.1:{OTHER_FIGURES}"):
+        client = Client(OTHER)
+        client.ask_all([["SET", "foo", "1"], ["GET", "foo"], ["get", "foo"], ["LPUSH", "foo", "1"], ["SCRIPT", "EXISTS", "x"], ["DEL", "foo"]])
+        client.ask_all([["MONITOR"], ["monitor"], ['A"\\\n{}'], *([f"NAME{it}"] for it in range(500))])
+        Client(OTHER).ask("MONITOR")  # at the other thread
+        time.sleep(0.1)
+        found = figures(OTHER_FIGURES)
+    node = f'{{node="127.0.0.1:{port_of("foo")}"}}'
+    of_node = {it: found[f"{it}{node}"] for it in ("node_errors_total", "node_in_flight", "node_up", "node_open_connections", "node_connections_ended_total")}
+    commands = {it: found.get(f'command_calls_total{{command="{it}"}}') for it in ("SET", "GET", "LPUSH", "SCRIPT|EXISTS", "MONITOR", "(unknown)")}
+    refused = {it: value for it, value in found.items() if it.startswith("refused_total")}
+    gauges = {it: found[it] for it in ("nodes", "nodes_up", "slots_served", "map_age_seconds")}
+    print(of_node, commands, len(refused), gauges)
+    is_right = refused['refused_total{command="MONITOR"}'] == 3 and sum(refused.values()) == 504 and 0 < len(refused) <= 128
+    is_right &= refused['refused_total{command="A?????"}'] == 1 and refused['refused_total{command="(others)"}'] > 300
+    is_right &= commands == {"SET": 1, "GET": 2, "LPUSH": 1, "SCRIPT|EXISTS": 1, "MONITOR": 3, "(unknown)": 501}
+    is_right &= 3 <= gauges["nodes_up"] <= gauges["nodes"] <= 6 and gauges["slots_served"] == 16384 and gauges["map_age_seconds"] < 60
+    return is_right and of_node["node_errors_total"] == 1 and of_node["node_in_flight"] == 0 and of_node["node_up"] == 1 and of_node["node_open_connections"] >= 1
+
+
+LABELS = r'\{(?:[a-z_]+="(?:[^"\\\n]|\\["\\n])*",?)*\}'
+SAMPLE = re.compile(rf"([a-z_]+?)(_bucket|_sum|_count)?({LABELS})? ([-+.e\d]+|\+Inf)")
+
+
+def faults_of(text):
+    """What is wrong with a text for Prometheus."""
+    kinds, seen, last = {}, set(), None
+    for line in text.splitlines():
+        if line.startswith("#"):
+            mark, word, name, rest = line.split(" ", 3)
+            if word == "TYPE":
+                if name in kinds or last != name:
+                    yield f"{line}: twice, or without HELP"
+                kinds[name] = rest
+            last = name
+            continue
+        match = SAMPLE.fullmatch(line)
+        name = match and (match[1] if kinds.get(match[1]) == "histogram" else match[1] + (match[2] or ""))
+        if not match or name != last or kinds.get(name) not in ("counter", "gauge", "histogram"):
+            yield f"{line}: not a figure of {last}"
+        elif line.rpartition(" ")[0] in seen or (kinds[name] == "counter") != name.endswith("_total"):
+            yield f"{line}: twice, or a wrong name"
+        seen.add(line.rpartition(" ")[0])
+
+
+def try_prometheus():
+    """The figures are a text that Prometheus reads, by a strict reader and by promtool, if it is there."""
+    client = Client()
+    client.ask_all([["SET", "foo", "1"], ["MGET", "foo", "bar"], ["MONITOR"], ["GET"]])
+    status, kind, text = page("/metrics")
+    faults = [*faults_of(text), *([] if text.endswith("\n") else ["no line end"])]
+    below = [float(it) for it in re.findall(r'seconds_bucket\{le="\S+"\} (\S+)', text)]
+    count = float(re.search(r"seconds_count (\S+)", text)[1])
+    tool = shutil.which("promtool")
+    said = subprocess.run([tool, "check", "metrics"], input=text, capture_output=True, text=True) if tool else None
+    print(status, kind, len(text.splitlines()), faults, said and said.stderr)
+    is_steady = below == sorted(below) and below[-1] == count
+    return status == 200 and kind == "text/plain; version=0.0.4" and not faults and is_steady and (said is None or said.returncode == 0)
+
+
+def try_waiting():
+    """A command that waits is counted, and its time is not among those of the others."""
+    before, client = figures(), Client()
+    found = [client.ask("BLPOP", "{foo}none", "0.3"), client.ask("XREAD", "BLOCK", "300", "STREAMS", "{foo}no", "$")]
+    after = figures()
+    print(found, after["seconds_count"] - before["seconds_count"], after["commands_total"] - before["commands_total"])
+    return found == [[], []] and after["seconds_count"] == before["seconds_count"] and after["commands_total"] == before["commands_total"] + 2
+
+
+def try_ready():
+    """/healthz is well while the proxy runs, and /readyz while each slot has a node."""
+    socketserver.ThreadingTCPServer.allow_reuse_address = socketserver.ThreadingTCPServer.daemon_threads = True
+    with socketserver.ThreadingTCPServer(("127.0.0.1", FAKE), Leaving) as node:
+        threading.Thread(target=node.serve_forever).start()
+        with proxy(OTHER, FAKE, "--metrics", f"127.0.0.1:{OTHER_FIGURES}") as (process, _, _):
+            found = [page(it, OTHER_FIGURES)[::2] for it in ("/healthz", "/readyz?x=1", "/readyz/", "/none")]
+            Leaving.last = 16000
+            Client(OTHER).ask("GET", "foo")  # the connection ends, so the map is read
+            gone = until(20, lambda: page("/readyz", OTHER_FIGURES)[0] == 503)
+            found += [page(it, OTHER_FIGURES)[::2] for it in ("/healthz", "/readyz")] + [page("/readyz", OTHER_FIGURES, "HEAD")[::2]]
+            served = figures(OTHER_FIGURES)["slots_served"]
+            Leaving.last = 16383
+            Client(OTHER).ask("GET", "foo")
+            back = until(20, lambda: page("/readyz", OTHER_FIGURES)[0] == 200)
+            head = page("/metrics", OTHER_FIGURES, "HEAD")[::2], page("/metrics", OTHER_FIGURES, "POST")[0]
+        node.shutdown()
+    print(found, gone, served, back, head)
+    first = [(200, "16384 of 16384 slots have a node\n"), (200, "16384 of 16384 slots have a node\n"), (404, "no such page\n"), (404, "no such page\n")]
+    then = [(200, "16001 of 16384 slots have a node\n"), (503, "16001 of 16384 slots have a node\n"), (503, "")]
+    return found == first + then and served == 16001 and gone is not None and back is not None and head == ((200, ""), 404)
+
+
+class Tags(HTMLParser):
+    """Collects the tags of a page, with their attributes."""
+
+    def __init__(self, text):
+        super().__init__()
+        self.found = []
+        self.feed(text)
+
+    def handle_starttag(self, tag, attributes):
+        self.found.append((tag, dict(attributes)))
+
+    def all(self, tag):
+        return [it for name, it in self.found if name == tag]
+
+
+def try_page():
+    """The page for people has nodes, slots, rates and refused commands. It needs no script, and nothing from elsewhere."""
+    socketserver.ThreadingTCPServer.allow_reuse_address = socketserver.ThreadingTCPServer.daemon_threads = True
+    Leaving.last = 16000
+    with socketserver.ThreadingTCPServer(("127.0.0.1", FAKE), Leaving) as node:
+        threading.Thread(target=node.serve_forever).start()
+        with proxy(OTHER, FAKE, "--metrics", f"127.0.0.1:{OTHER_FIGURES}"):
+            Client(OTHER).ask_all([["PING"], ["<b>"]])
+            time.sleep(2.2)
+            status, kind, partial = page("/", OTHER_FIGURES)
+        node.shutdown()
+    Leaving.last = 16383
+    time.sleep(1)
+    whole = page("/")[2]
+    strips = [[(int(it["x"]), int(it["width"]), it.get("class")) for it in Tags(text).all("rect")] for text in (partial, whole)]
+    names = [line for line in re.findall(r"</i>([^<]+)<td>(\w+)<td[^>]*>([\w ]+)<td>(\d+)", whole)]
+    is_plain = not Tags(whole).all("script") and "http" not in whole.replace("http-equiv", "") and "src=" not in whole and "<b>" not in partial
+    points = Tags(whole).all("polygon")[0]["points"].split()
+    print(status, kind, len(whole), strips, names, len(points))
+    is_whole = sum(it[1] for it in strips[1]) == 16384 and all(it[2] is None for it in strips[1])
+    is_partial = strips[0] == [(0, 16000, None), (16000, 384, "none")] and "Not ready" in partial and "??B?" not in partial and "?B?, refused" in partial
+    served = sum(int(it[3]) for it in names if it[1] == "primary")
+    return status == 200 and kind.startswith("text/html") and is_plain and is_whole and is_partial and served == 16384 and len(points) > 2 and "content=2" in whole
