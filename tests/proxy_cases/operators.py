@@ -231,7 +231,7 @@ def try_waiting():
     found = [client.ask("BLPOP", "{foo}none", "0.3"), client.ask("XREAD", "BLOCK", "300", "STREAMS", "{foo}no", "$")]
     after = figures()
     print(found, after["seconds_count"] - before["seconds_count"], after["commands_total"] - before["commands_total"])
-    return found == [[], []] and after["seconds_count"] == before["seconds_count"] and after["commands_total"] == before["commands_total"] + 2
+    return found == [None, None] and after["seconds_count"] == before["seconds_count"] and after["commands_total"] == before["commands_total"] + 2
 
 
 def try_ready():
