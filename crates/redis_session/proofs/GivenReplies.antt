@@ -148,7 +148,6 @@ same_first : (parts : List PartState) → slice_get (numbered (λ part p. record
 same_first [] = refl
 same_first (p ∷ parts) = refl
 
-
 first_through : (f : CallState → CallState) (o : Option CallState) → ((x : CallState) → slice_get (f x).parts 0 ≡ slice_get x.parts 0) → option_and_then (λ c. slice_get c.parts 0) (option_map f o) ≡ option_and_then (λ c. slice_get c.parts 0) o
 first_through f None same = refl
 first_through f (Some x) same = same x
@@ -157,9 +156,10 @@ pub part_stays : (c call : ℕ) (state : CallState) (s : State) → part_at c 0 
 part_stays c call state s =
     let f : ℕ → CallState → CallState = call_after (Finish call state) in
     let first : Option CallState → Option PartState = λ o. option_and_then (λ x. slice_get x.parts 0) o in
-    elim (nat_lt c s.first) as (λ b. first (if b then None else slice_get (numbered f s.first s.calls) (c - s.first)) ≡ first (if b then None else slice_get s.calls (c - s.first)))
-    [ true ↦ refl
-    | false ↦ ap first (slice_get-numbered f s.first s.calls (c - s.first)) ∙ first_through (f _) (slice_get s.calls (c - s.first)) (λ x. same_first x.parts) ]
+    elim (nat_lt c s.first) as (λ b. first (if b then None else slice_get (numbered f s.first s.calls) (c - s.first)) ≡ first (if b then None else slice_get s.calls (c - s.first))) [
+      | true ↦ refl
+      | false ↦ ap first (slice_get-numbered f s.first s.calls (c - s.first)) ∙ first_through (f _) (slice_get s.calls (c - s.first)) (λ x. same_first x.parts)
+    ]
 
 pub bytes_stay : (given : Given) (call : ℕ) (state : CallState) (s : State) → bytes_of given (after (Finish call state) s) ≡ bytes_of given s
 bytes_stay Nothing call state s = refl
@@ -173,7 +173,7 @@ finishes_by caller call old now machine reply owed state same at its happens mad
     let of_old : HasReply old call reply = subst (λ (s : SessionState). HasReply s call reply) (sym same) made in
     let it = of_old state happens.may.call_is in
     let bytes : bytes_of (given_of reply) machine ≡ bytes_of (given_of reply) old.machine =
-        ap (bytes_of (given_of reply)) happens.is ∙ bytes_stay (given_of reply) call state old.machine in
+    ap (bytes_of (given_of reply)) happens.is ∙ bytes_stay (given_of reply) call state old.machine in
     subst (λ (s : SessionState). Finishes caller call s (record old { machine = machine; given = given_of reply })) same (record {
       state = state;
       given = happens;

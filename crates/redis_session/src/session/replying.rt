@@ -310,12 +310,7 @@ fn answers_of(alloc: Global, state: &Call) -> Result<Vec<Vec<u8>>, AllocError>
 }
 
 /// The reply to a call of which this part was not answered.
-fn fault_reply(
-    alloc: Global,
-    call: u64,
-    state: &Call,
-    part: &Part,
-) -> Result<LastReply, AllocError>
+fn fault_reply(alloc: Global, call: u64, state: &Call, part: &Part) -> Result<LastReply, AllocError>
     ensures { IfOk result (GivesBytes call (IsErrorFor part.now.phase (effect_on state.now.parts))) }
 {
     let effect = effect_of(&fates_of(alloc, state)?);
