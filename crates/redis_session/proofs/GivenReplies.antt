@@ -1,7 +1,7 @@
 -- The reply to a call, by what was made of its parts.
-use Rattle.std.proofs.Common.{◌≡◌, ◌≢◌, ◌∙◌, ◌-◌, ◌⊎◌, inl, inr, ℕ, Bool, true, false, List, [], ◌∷◌, Option, None, Some, Ok, Err, map, refl, sym, ap, subst, length, arith}
-use Rattle.std.specs.Prelude.{Result, IfErr, IfOk, IfSome, MatchOption, MatchResult, nat_lt, if◌then◌else◌}
-use Rattle.std.specs.List.{concat, find, slice_get}
+use Rattle.std.proofs.Common.{◌≡◌, ◌≢◌, ◌∙◌, ◌-◌, inl, inr, ℕ, true, false, List, [], ◌∷◌, Option, None, Some, Ok, Err, map, refl, sym, ap, subst, length, arith}
+use Rattle.std.specs.Prelude.{Result, IfOk, IfSome, MatchOption, nat_lt, if◌then◌else◌}
+use Rattle.std.specs.List.{concat, slice_get}
 use Rattle.std.specs.Option.{option_and_then, option_map}
 use Rattle.std.specs.declared.vec.Vec.{Vec}
 use Rattle.std.specs.declared.alloc.Global.{Global}
@@ -13,7 +13,7 @@ use Rattle.redis_bytes.specs.Requests.{IsSplitRequest}
 use Rattle.redis_bytes.specs.declared.fault.BytesFault.{BytesFault}
 use Rattle.redis_bytes.specs.declared.fault.BytesFault.TheVariants.{Memory}
 use Rattle.session_core.specs.Part.{Phase, PartState, Waits, Asked, Answered, Lost, Refused, Unsent}
-use Rattle.session_core.specs.State.{CallState, State, Event, Finish, Happens, after, call_after, call_at, numbered, part_at}
+use Rattle.session_core.specs.State.{CallState, State, Finish, Happens, after, call_after, call_at, numbered, part_at}
 use Rattle.session_core.proofs.AfterEvents.{slice_get-numbered}
 use Rattle.redis_session.specs.CallReplies.{GivesBytes, IsErrorFor, IsMadeBy, IsOnly, IsReplyOfNodes, IsReplyTo, IsSplitReply, answers_in, cause_of, effect_on, first_unanswered}
 use Rattle.redis_session.specs.Leads.{Finishes}

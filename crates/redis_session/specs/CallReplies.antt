@@ -1,5 +1,5 @@
 -- Which bytes the reply to a call has.
-use Rattle.std.specs.Prelude.{◌≡◌, ◌≢◌, ◌⊎◌, ◌∷◌, [], ℕ, List, Bool, true, false, not, Option, None, Some, MatchOption, length, map}
+use Rattle.std.specs.Prelude.{◌≡◌, ◌≢◌, ◌⊎◌, ◌∷◌, [], ℕ, List, Bool, true, false, not, Option, Some, MatchOption, length, map}
 use Rattle.std.specs.List.{concat, find}
 use Rattle.redis_routing.specs.Names.{Names}
 use Rattle.redis_routing.specs.Split.{Split}
@@ -11,7 +11,7 @@ use Rattle.redis_bytes.specs.declared.answers_fault.AnswersFault as answers_faul
 use Rattle.redis_bytes.specs.declared.answers_fault.AnswersFault.TheVariants as answers_faults
 use Rattle.redis_bytes.specs.declared.fault.BytesFault as fault
 use Rattle.redis_bytes.specs.declared.fault.BytesFault.TheVariants as faults
-use Rattle.session_core.specs.Part.{Phase, PartState, Waits, Asked, Answered, Lost, Refused, Unsent}
+use Rattle.session_core.specs.Part.{Phase, PartState, Asked, Answered, Lost, Refused, Unsent}
 use Rattle.session_core.specs.declared.part.Cause.TheVariants as causes
 use Rattle.redis_session.specs.SessionStates.{Bytes, answer_of, given_of}
 use Rattle.redis_session.specs.SplitReplies.{is_error}

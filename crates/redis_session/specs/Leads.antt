@@ -2,7 +2,6 @@
 use Rattle.std.specs.Prelude.{◌≡◌, ◌≢◌, ◌⊎◌, ℕ, List, Bool, true, false}
 use Rattle.std.specs.List.{list_all}
 use Rattle.session_core.specs.declared.link.Standing.{Standing}
-use Rattle.session_core.specs.declared.link.Standing.TheVariants as Standing
 use Rattle.session_core.specs.Channel.{Channel}
 use Rattle.session_core.specs.LinkEvents as link
 use Rattle.session_core.specs.Part.{PartState}
