@@ -71,6 +71,12 @@ void buffer_print(buffer *it, const char *format, ...) {
     it->end += (size_t)len;
 }
 
+void buffer_bulk(buffer *it, const char *text, size_t len) {
+    buffer_print(it, "$%zu\r\n", len);
+    buffer_put(it, text, len);
+    buffer_text(it, "\r\n");
+}
+
 void buffer_drop(buffer *it, size_t len) {
     it->start += len;
     if (it->start < it->end)

@@ -20,12 +20,15 @@ void *memory_take_raw(size_t size); /* of any bytes */
 void memory_give(void *block, size_t size);
 
 static inline size_t buffer_len(const buffer *it) { return it->end - it->start; }
-static inline uint8_t *buffer_at(const buffer *it) { return it->bytes == NULL ? NULL : it->bytes + it->start; }
+static inline uint8_t *buffer_at(const buffer *it) {
+    return it->bytes == NULL ? NULL : it->bytes + it->start;
+}
 
 /* Where the next `least` bytes can be written. `end` is then raised by the caller. */
 uint8_t *buffer_room(buffer *it, size_t least);
 void buffer_put(buffer *it, const void *bytes, size_t len);
 void buffer_text(buffer *it, const char *text);
+void buffer_bulk(buffer *it, const char *text, size_t len); /* a bulk string */
 void buffer_print(buffer *it, const char *format, ...) __attribute__((format(printf, 2, 3)));
 
 /* Drops bytes at the front. An empty buffer with a block above 64 KiB gives its block back. */

@@ -120,9 +120,9 @@ static bool may_read(const client *it) {
 /* Whether the client waits for as long as a node likes, as with BLPOP. */
 static bool is_blocked(const client *it) { return it->first != NULL && it->first->is_blocking; }
 
-/* Refuses a command, with its name. */
-static void refuse(client *it, words words, const char *why) {
-    char text[200], name[32] = "";
+void client_refuse(client *it, const uint8_t *bytes, size_t len, const char *why) {
+    char text[250], name[32] = "";
+    words words = words_of(bytes, len);
     word first = {"", 0};
     words_next(&words, &first);
     for (size_t at = 0; at < first.len && at + 1 < sizeof name; at++)
@@ -151,10 +151,9 @@ static const char *refusal_of_state(const client *it, command_kind kind) {
 static bool take(client *it, const uint8_t *bytes, size_t len) {
     size_t number;
     command_kind kind = command_of(bytes, len, &number);
-    words words = words_of(bytes, len);
     const char *refusal = command_refusal(kind), *refusal_now = refusal_of_state(it, kind);
     bool has_begun = true;
-    if (words.left == 0)
+    if (words_of(bytes, len).left == 0)
         return true; /* a server does not answer a request of no words either */
     if (!it->is_known && kind != COMMAND_AUTH && kind != COMMAND_HELLO && kind != COMMAND_QUIT)
         request_answer_own(it, "-NOAUTH Authentication required.\r\n", 34);
@@ -167,7 +166,7 @@ static bool take(client *it, const uint8_t *bytes, size_t len) {
     else if (it->is_multi && kind != COMMAND_QUIT && kind != COMMAND_RESET)
         transaction_queue(it, bytes, len, kind);
     else if (refusal != NULL)
-        refuse(it, words, refusal);
+        client_refuse(it, bytes, len, refusal);
     else if (kind == COMMAND_SUBSCRIPTION)
         has_begun = subscription_begin(it, bytes, len);
     else if (kind == COMMAND_CURSOR)
@@ -181,18 +180,17 @@ static bool take(client *it, const uint8_t *bytes, size_t len) {
     return has_begun;
 }
 
-/* Takes a request that is a line of text. */
+/* Takes a request that is a line of text. If it has to wait for the earlier ones, `end` is 0. */
 static whole take_line(client *it, const uint8_t *bytes, size_t len, size_t *end) {
     buffer request = {0};
     whole found = inline_read(bytes, len, &request, end);
     if (found == IS_WHOLE && buffer_len(&request) > 0)
-        take(it, buffer_at(&request), buffer_len(&request));
+        *end = take(it, buffer_at(&request), buffer_len(&request)) ? *end : 0;
     buffer_free(&request);
     return found;
 }
 
-/* Takes the requests that have come whole, as far as the client may be read. Returns how many bytes they
- * have. */
+/* Takes the requests that have come whole, as far as the client may be read. Returns their bytes. */
 static size_t take_requests(client *it, const uint8_t *bytes, size_t len) {
     size_t used = 0, end = 0;
     while (used < len && may_read(it)) {
@@ -209,7 +207,7 @@ static size_t take_requests(client *it, const uint8_t *bytes, size_t len) {
             client_end(it);
             return len;
         }
-        if (found == IS_PIECE || (!is_line && !take(it, bytes + used, end)))
+        if (found == IS_PIECE || end == 0 || (!is_line && !take(it, bytes + used, end)))
             break;
         used += end;
     }

@@ -22,6 +22,9 @@ void client_doom(client *client, const char *why);
 void client_end(client *client);
 void client_free(client *client);
 
+/* Refuses a command, with its name, which is counted. */
+void client_refuse(client *client, const uint8_t *bytes, size_t len, const char *why);
+
 /* Answers a command that the proxy answers itself. */
 void own_answer(client *client, unsigned kind, const uint8_t *request, size_t len);
 

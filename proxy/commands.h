@@ -31,11 +31,8 @@ typedef enum command_kind {
     COMMAND_SELECT,
     COMMAND_AUTH,
     COMMAND_HELLO,
-    COMMAND_CLIENT,
-    COMMAND_INFO,
-    COMMAND_ROLE,
-    COMMAND_CONFIG,
     COMMAND_RESET,
+    COMMAND_OWN,
 } command_kind;
 
 /* A word of a request. */

@@ -8,9 +8,15 @@
 enum { ROOM = 2 * MOST_NODES }; /* for the names so far, and those of one more thread */
 
 void figures_tick(node *it) {
-    figure_set(&it->figures[NODE_IN_FLIGHT], it->count);
-    figure_set(&it->figures[NODE_OPEN_NOW], it->state == NODE_OPEN);
-    figure_set(&it->figures[NODE_DOWN], it->is_failing);
+    uint64_t in_flight = 0, open = 0, is_down = it->is_failing;
+    for (const node *one = it; one != NULL; one = one->three) {
+        in_flight += one->count;
+        open += one->state == NODE_OPEN;
+        is_down |= one->is_failing && it->worker->now < one->failed + SECOND; /* it may not be asked again */
+    }
+    figure_set(&it->figures[NODE_IN_FLIGHT], in_flight);
+    figure_set(&it->figures[NODE_OPEN_NOW], open);
+    figure_set(&it->figures[NODE_DOWN], is_down);
     figure_set(&it->figures[NODE_IN_MAP], it->is_in_map);
     if (it->worker->number == 0)
         figure_set(&it->figures[NODE_NUMBER], it->number);
@@ -101,20 +107,19 @@ void named_free(named_list *it) { memory_give(it->all, ROOM * sizeof *it->all); 
 /* Writes one figure of each node. */
 static void write_of_nodes(const named_list *nodes, buffer *out) {
     static const struct row {
-        const char *name, *type, *says;
+        const char *name, *says;
         node_figure figure;
     } rows[] = {
-        {"node_requests_total", "counter", "commands sent on the shared connections to a node",
-         NODE_REQUESTS},
-        {"node_errors_total", "counter", "errors of a node that clients got", NODE_ERRORS},
-        {"node_connections_ended_total", "counter", "shared connections to a node that ended", NODE_LOST},
-        {"node_in_flight", "gauge", "commands that a node has not answered", NODE_IN_FLIGHT},
-        {"node_open_connections", "gauge", "shared connections to a node", NODE_OPEN_NOW},
-        {"node_slots", "gauge", "slots of a node in the map", NODE_SLOTS},
-        {"node_up", "gauge", "0 if the last connection of a thread to a node failed", NODE_DOWN},
+        {"node_requests_total", "commands sent on the shared connections to a node", NODE_REQUESTS},
+        {"node_errors_total", "errors of a node that clients got", NODE_ERRORS},
+        {"node_connections_ended_total", "shared connections to a node that ended", NODE_LOST},
+        {"node_in_flight", "commands that a node has not answered", NODE_IN_FLIGHT},
+        {"node_open_connections", "shared connections to a node", NODE_OPEN_NOW},
+        {"node_slots", "slots of a node in the map", NODE_SLOTS},
+        {"node_up", "0 if the last connection of a thread to a node failed", NODE_DOWN},
     };
     for (size_t row = 0; row < sizeof rows / sizeof *rows; row++) {
-        stats_head(out, rows[row].name, rows[row].type, rows[row].says);
+        stats_head(out, rows[row].name, rows[row].says);
         for (size_t at = 0; at < nodes->count; at++) {
             uint64_t figure = nodes->all[at].figures[rows[row].figure];
             buffer_print(out, "slotroute_proxy_%s{node=\"%s\"} %llu\n", rows[row].name, nodes->all[at].name,
@@ -124,7 +129,7 @@ static void write_of_nodes(const named_list *nodes, buffer *out) {
 }
 
 static void write_commands(named_list list, const char *name, const char *says, buffer *out) {
-    stats_head(out, name, "counter", says);
+    stats_head(out, name, says);
     for (size_t at = 0; at < list.count; at++)
         buffer_print(out, "slotroute_proxy_%s{command=\"%s\"} %llu\n", name, list.all[at].name,
                      (unsigned long long)list.all[at].figures[0]);
@@ -132,7 +137,7 @@ static void write_commands(named_list list, const char *name, const char *says, 
 }
 
 static void write_gauge(buffer *out, const char *name, const char *says, double value) {
-    stats_head(out, name, "gauge", says);
+    stats_head(out, name, says);
     buffer_print(out, "slotroute_proxy_%s %g\n", name, value);
 }
 

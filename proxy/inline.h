@@ -1,5 +1,4 @@
-/* Requests that are lines of text, as health checks send them: PING, and what else the proxy answers itself.
- */
+/* Requests that are lines of text, as of health checks: PING, and what else the proxy answers itself. */
 #ifndef PROXY_INLINE_H
 #define PROXY_INLINE_H
 

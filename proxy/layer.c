@@ -26,8 +26,6 @@ static void make_room(size_t bytes, size_t parts) {
     }
 }
 
-const char *layer_version(void) { return SLOTROUTE_VERSION; }
-
 /* A long message is scanned first, so that one that comes in pieces is gone over once. */
 whole layer_request(const uint8_t *bytes, size_t len, slotroute_progress *progress, size_t *end) {
     slotroute_told told = {0};
@@ -137,32 +135,22 @@ bool layer_redirect(const uint8_t *error, size_t len, const char *answering, red
     return true;
 }
 
-/* These two stand here until the library has them, by the same names. */
-enum { CURSOR_BITS = 48 };
-
-static uint32_t slotroute_scan_position(uint64_t cursor, uint32_t nodes, uint32_t *node,
-                                        uint64_t *node_cursor) {
-    if (cursor >> CURSOR_BITS >= nodes)
-        return SLOTROUTE_UNFIT;
-    *node = (uint32_t)(cursor >> CURSOR_BITS);
-    *node_cursor = cursor & ((1ULL << CURSOR_BITS) - 1);
-    return SLOTROUTE_DONE;
-}
-
-static uint32_t slotroute_next_cursor(uint32_t node, uint64_t node_cursor, uint32_t nodes, uint64_t *cursor) {
-    if (node >= nodes || node_cursor >> CURSOR_BITS != 0)
-        return SLOTROUTE_UNFIT;
-    uint64_t next = node_cursor != 0 ? node : node + 1ULL;
-    *cursor = next == nodes ? 0 : next << CURSOR_BITS | node_cursor;
-    return SLOTROUTE_DONE;
-}
+enum { CURSOR_BITS = 48 }; /* of a cursor, and above these the number of its node */
 
 bool layer_scan_position(uint64_t cursor, uint32_t nodes, uint32_t *node, uint64_t *node_cursor) {
-    return slotroute_scan_position(cursor, nodes, node, node_cursor) == SLOTROUTE_DONE;
+    if (cursor >> CURSOR_BITS >= nodes)
+        return false;
+    *node = (uint32_t)(cursor >> CURSOR_BITS);
+    *node_cursor = cursor & ((1ULL << CURSOR_BITS) - 1);
+    return true;
 }
 
 bool layer_next_cursor(uint32_t node, uint64_t node_cursor, uint32_t nodes, uint64_t *cursor) {
-    return slotroute_next_cursor(node, node_cursor, nodes, cursor) == SLOTROUTE_DONE;
+    if (node >= nodes || node_cursor >> CURSOR_BITS != 0)
+        return false;
+    uint64_t next = node_cursor != 0 ? node : node + 1ULL;
+    *cursor = next == nodes ? 0 : next << CURSOR_BITS | node_cursor;
+    return true;
 }
 
 void layer_message(uint32_t answer, char *text, size_t room) {
@@ -171,9 +159,8 @@ void layer_message(uint32_t answer, char *text, size_t room) {
 }
 
 void layer_trim(void) {
-    if (out_room <= MOST_KEPT && parts_room <= MOST_KEPT / sizeof *ends)
-        return;
-    layer_end();
+    if (out_room > MOST_KEPT || parts_room > MOST_KEPT / sizeof *ends)
+        layer_end();
 }
 
 void layer_end(void) {

@@ -14,9 +14,6 @@ enum { HOST_ROOM = 256 };
 
 typedef enum whole { IS_WHOLE, IS_PIECE, IS_MALFORMED } whole;
 
-/* The version of the library whose header the proxy was compiled with: that of the proxy, too. */
-const char *layer_version(void);
-
 /* Whether the bytes begin with a whole request or reply, and where it ends. If a piece is there, the
  * progress says how far it was gone over. */
 whole layer_request(const uint8_t *bytes, size_t len, slotroute_progress *progress, size_t *end);

@@ -49,8 +49,14 @@ node *node_three(node *it) {
         it->three = node_new(it->worker, it->host, it->port);
         it->three->is_private = false;
         it->three->is_three = true;
+        it->three->number = it->number; /* it is counted there */
     }
     return it->three;
+}
+
+void node_count(const node *it, node_figure figure) {
+    if (!it->is_private)
+        figure_add(&it->worker->nodes[it->number]->figures[figure], 1);
 }
 
 void node_touch(node *it) {
@@ -97,7 +103,7 @@ void node_ask(node *it, const void *bytes, size_t len, waiter waiter) {
     node_send(it, bytes, len);
     it->queue[(it->first + it->count++) % it->room] = waiter;
     it->asked++;
-    figure_add(&it->figures[NODE_REQUESTS], 1);
+    node_count(it, NODE_REQUESTS);
 }
 
 /* Gives a reply to who waits for it. */
@@ -193,8 +199,7 @@ static void report_loss(const node *it) {
         it->host, it->port, it->lost, counts[FATE_UNSURE], counts[FATE_NO_EFFECT], counts[FATE_AGAIN]);
 }
 
-/* Closes the connection, and reports to who waits. What was not written is dropped: the connection is reset.
- */
+/* Closes the connection, and reports to who waits. It is reset: what was not written is dropped. */
 static void lose(node *it) {
     struct linger reset = {1, 0};
     waiter *queue = it->queue;
@@ -209,7 +214,7 @@ static void lose(node *it) {
         close(it->peer.fd);
     }
     figure_add(&it->worker->stats.counts[COUNT_NODES_LOST], 1);
-    figure_add(&it->figures[NODE_LOST], 1);
+    node_count(it, NODE_LOST);
     buffer_free(&it->in);
     buffer_free(&it->out);
     it->peer = (peer){.kind = PEER_NODE, .fd = -1};
@@ -256,9 +261,21 @@ void node_settle(node *it) {
     node_check(it);
 }
 
+/* Gives back the memory of a connection that is idle. */
+static void give_back(node *it) {
+    buffer_free(&it->out);
+    if (buffer_len(&it->in) == 0)
+        buffer_free(&it->in);
+    memory_give(it->queue, it->room * sizeof *it->queue);
+    it->queue = NULL;
+    it->first = it->room = 0;
+}
+
 void node_tick(node *it) {
     if (it->three != NULL)
         node_tick(it->three);
+    if (it->count == 0 && buffer_len(&it->out) == 0 && it->worker->now > it->heard + SECOND)
+        give_back(it);
     uint64_t limit = the_proxy.settings.timeout * MILLISECOND;
     bool owes = it->state == NODE_OPENING || it->state == NODE_LOGIN ||
                 (it->state == NODE_OPEN && it->count > 0 && !it->is_new);

@@ -29,6 +29,9 @@ void node_open(node *node);
 void node_finish_opening(node *node);
 void node_become_open(node *node);
 
+/* Counts something at the node of a connection that clients share. */
+void node_count(const node *node, node_figure figure);
+
 /* Has the node looked after at the end of the round. */
 void node_touch(node *node);
 

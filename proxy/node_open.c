@@ -44,9 +44,9 @@ static void log_in(node *it, const char *user, const char *password) {
     if (password != NULL)
         buffer_text(&words, "$4\r\nAUTH\r\n");
     if (password != NULL && user != NULL)
-        buffer_print(&words, "$%zu\r\n%s\r\n", strlen(user), user);
+        buffer_bulk(&words, user, strlen(user));
     if (password != NULL)
-        buffer_print(&words, "$%zu\r\n%s\r\n", strlen(password), password);
+        buffer_bulk(&words, password, strlen(password));
     node_make_room(it);
     it->first = (it->first + it->room - 1) % it->room;
     it->queue[it->first] = (waiter){.waits = WAITS_PASSWORD};

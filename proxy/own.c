@@ -20,21 +20,16 @@ void own_text(client *client, const char *text) { request_answer_own(client, tex
 
 void own_bulk(client *client, const char *text, size_t len) {
     buffer out = {0};
-    buffer_print(&out, "$%zu\r\n", len);
-    buffer_put(&out, text, len);
-    buffer_text(&out, "\r\n");
-    request_answer_own(client, (const char *)buffer_at(&out), buffer_len(&out));
-    buffer_free(&out);
+    buffer_bulk(&out, text, len);
+    request_answer_with(client, &out);
 }
 
 /* Answers PING as a server answers a subscriber. */
 static void answer_pong(client *client, word given) {
     buffer out = {0};
-    buffer_print(&out, "*2\r\n$4\r\npong\r\n$%zu\r\n", given.len);
-    buffer_put(&out, given.text, given.len);
-    buffer_text(&out, "\r\n");
-    request_answer_own(client, (const char *)buffer_at(&out), buffer_len(&out));
-    buffer_free(&out);
+    buffer_text(&out, "*2\r\n$4\r\npong\r\n");
+    buffer_bulk(&out, given.text, given.len);
+    request_answer_with(client, &out);
 }
 
 void own_wrong_count(client *client, word name) {
@@ -121,14 +116,14 @@ static void answer_hello(client *client, const line *line) {
         private_drop(client);
     client->is_three = is_three;
     const char *version = info_field(client->worker, NODE_VERSION);
-    buffer_print(&out,
-                 "%s\r\n$6\r\nserver\r\n$5\r\nredis\r\n$7\r\nversion\r\n$%zu\r\n%s\r\n$5\r\nproto\r\n:%d\r\n"
-                 "$2\r\nid\r\n:%llu\r\n",
-                 is_three ? "%7" : "*14", strlen(version), version, is_three ? 3 : 2, (unsigned long long)client->id);
-    buffer_text(&out,
-                "$4\r\nmode\r\n$10\r\nstandalone\r\n$4\r\nrole\r\n$6\r\nmaster\r\n$7\r\nmodules\r\n*0\r\n");
-    request_answer_own(client, (const char *)buffer_at(&out), buffer_len(&out));
-    buffer_free(&out);
+    buffer_print(&out, "%s\r\n$6\r\nserver\r\n$5\r\nredis\r\n$7\r\nversion\r\n", is_three ? "%7" : "*14");
+    buffer_bulk(&out, version, strlen(version));
+    buffer_print(
+        &out,
+        "$5\r\nproto\r\n:%d\r\n$2\r\nid\r\n:%llu\r\n$4\r\nmode\r\n$10\r\nstandalone\r\n$4\r\nrole\r\n"
+        "$6\r\nmaster\r\n$7\r\nmodules\r\n*0\r\n",
+        is_three ? 3 : 2, (unsigned long long)client->id);
+    request_answer_with(client, &out);
 }
 
 static void answer_select(client *client, const line *line) {
@@ -152,34 +147,38 @@ static void answer_reset(client *client) {
     own_text(client, "+RESET\r\n");
 }
 
+static void answer_ping(client *client, const line *line, bool is_ping) {
+    word given = line->count > 1 ? line->words[1] : (word){"", 0};
+    if (line->count > 2 || (line->count == 1 && !is_ping))
+        own_wrong_count(client, line->words[0]);
+    else if (is_ping && client->is_subscribed && !client->is_three)
+        answer_pong(client, given);
+    else if (line->count == 1)
+        own_text(client, "+PONG\r\n");
+    else
+        own_bulk(client, given.text, given.len);
+}
+
 void own_answer(client *client, unsigned kind, const uint8_t *request, size_t len) {
     line line = line_of(request, len);
-    if (kind == COMMAND_PING && line.count <= 2 && client->is_subscribed && !client->is_three)
-        answer_pong(client, line.count == 2 ? line.words[1] : (word){"", 0});
-    else if (kind == COMMAND_PING && line.count == 1)
-        own_text(client, "+PONG\r\n");
-    else if ((kind == COMMAND_PING || kind == COMMAND_ECHO) && line.count == 2)
-        own_bulk(client, line.words[1].text, line.words[1].len);
-    else if (kind == COMMAND_PING || kind == COMMAND_ECHO)
-        own_wrong_count(client, line.words[0]);
+    if (kind == COMMAND_PING || kind == COMMAND_ECHO)
+        answer_ping(client, &line, kind == COMMAND_PING);
     else if (kind == COMMAND_SELECT)
         answer_select(client, &line);
     else if (kind == COMMAND_AUTH)
         answer_auth(client, &line);
     else if (kind == COMMAND_HELLO)
         answer_hello(client, &line);
-    else if (kind == COMMAND_CLIENT)
-        own_client(client, &line);
-    else if (kind == COMMAND_INFO)
-        own_info(client, &line);
-    else if (kind == COMMAND_CONFIG)
-        own_config(client, &line);
-    else if (kind == COMMAND_ROLE)
-        own_text(client, "*3\r\n$6\r\nmaster\r\n:0\r\n*0\r\n");
     else if (kind == COMMAND_RESET)
         answer_reset(client);
+    else if (word_is(line.words[0], "CLIENT"))
+        own_client(client, &line);
+    else if (word_is(line.words[0], "INFO"))
+        own_info(client, &line);
+    else if (word_is(line.words[0], "CONFIG"))
+        own_config(client, &line);
     else
-        own_text(client, "+OK\r\n");
+        own_text(client, kind == COMMAND_QUIT ? "+OK\r\n" : "*3\r\n$6\r\nmaster\r\n:0\r\n*0\r\n"); /* ROLE */
     if (kind == COMMAND_QUIT)
         client_end(client);
 }

@@ -86,10 +86,9 @@ void own_client(client *client, const line *line) {
         answer_name(client, words[2]);
     else if (word_is(second, "GETNAME") && line->count == 2)
         own_bulk(client, (const char *)buffer_at(&client->name), buffer_len(&client->name));
-    else if (word_is(second, "SETINFO") && line->count == 4)
-        own_text(client, "+OK\r\n");
-    else if ((word_is(second, "NO-EVICT") || word_is(second, "NO-TOUCH")) && line->count == 3 &&
-             is_switch(words[2]))
+    else if ((word_is(second, "SETINFO") && line->count == 4) ||
+             ((word_is(second, "NO-EVICT") || word_is(second, "NO-TOUCH")) && line->count == 3 &&
+              is_switch(words[2])))
         own_text(client, "+OK\r\n");
     else if (word_is(second, "ID") && line->count == 2)
         answer_id(client);
@@ -97,7 +96,9 @@ void own_client(client *client, const line *line) {
         answer_list(client, false, false);
     else if (word_is(second, "LIST") && (line->count == 2 || is_normal || is_pubsub))
         answer_list(client, !is_normal, !is_pubsub);
-    else
+    else {
+        stats_refused(&client->worker->stats, "CLIENT");
         request_refuse(client, "the proxy does not take this: of CLIENT it takes GETNAME, ID, INFO, LIST, "
                                "NO-EVICT, NO-TOUCH, SETINFO and SETNAME, and no caching by clients");
+    }
 }

@@ -92,47 +92,40 @@ void own_info(client *client, const line *line) {
     buffer_free(&out);
 }
 
-enum { PARAMETERS = 6 };
-
-/* The parameters that the proxy knows, with their values. */
-static void put_parameters(const worker *worker, char (*names)[FIELD_ROOM], char (*values)[FIELD_ROOM]) {
-    static const char *const all[PARAMETERS] = {"databases",          "timeout",   "maxclients",
-                                                "proto-max-bulk-len", "maxmemory", "maxmemory-policy"};
-    const settings *set = &the_proxy.settings;
-    for (size_t at = 0; at < PARAMETERS; at++)
-        snprintf(names[at], FIELD_ROOM, "%s", all[at]);
-    snprintf(values[0], FIELD_ROOM, "1");
-    snprintf(values[1], FIELD_ROOM, "0");
-    snprintf(values[2], FIELD_ROOM, "%llu", (unsigned long long)set->max_clients);
-    snprintf(values[3], FIELD_ROOM, "%llu", (unsigned long long)set->max_message);
-    snprintf(values[4], FIELD_ROOM, "%s", info_field(worker, NODE_MAXMEMORY));
-    snprintf(values[5], FIELD_ROOM, "%s", info_field(worker, NODE_POLICY));
-}
-
 void own_config(client *client, const line *line) {
-    char names[PARAMETERS][FIELD_ROOM], values[PARAMETERS][FIELD_ROOM], pattern[FIELD_ROOM];
+    char clients[FIELD_ROOM], message[FIELD_ROOM], pattern[FIELD_ROOM];
+    const struct parameter {
+        const char *name, *value;
+    } all[] = {{"databases", "1"},
+               {"timeout", "0"},
+               {"maxclients", clients},
+               {"proto-max-bulk-len", message},
+               {"maxmemory", info_field(client->worker, NODE_MAXMEMORY)},
+               {"maxmemory-policy", info_field(client->worker, NODE_POLICY)}};
+    bool is_told[sizeof all / sizeof *all] = {false};
     buffer found = {0}, out = {0};
     size_t count = 0;
     if (line->count < 3 || line->count > MOST_WORDS || !word_is(line->words[1], "GET")) {
+        stats_refused(&client->worker->stats, "CONFIG");
         request_refuse(client, "the proxy does not take this: of CONFIG it takes GET, for what it knows");
         return;
     }
-    put_parameters(client->worker, names, values);
+    snprintf(clients, sizeof clients, "%llu", (unsigned long long)the_proxy.settings.max_clients);
+    snprintf(message, sizeof message, "%llu", (unsigned long long)the_proxy.settings.max_message);
     for (size_t word = 2; word < line->count; word++) {
         size_t len = line->words[word].len;
         snprintf(pattern, FIELD_ROOM, "%.*s", len < FIELD_ROOM ? (int)len : 0, line->words[word].text);
-        for (size_t at = 0; at < PARAMETERS; at++) {
-            if (fnmatch(pattern, names[at], FNM_CASEFOLD) != 0)
+        for (size_t at = 0; at < sizeof is_told; at++) {
+            if (is_told[at] || fnmatch(pattern, all[at].name, FNM_CASEFOLD) != 0)
                 continue;
-            buffer_print(&found, "$%zu\r\n%s\r\n$%zu\r\n%s\r\n", strlen(names[at]), names[at],
-                         strlen(values[at]), values[at]);
-            names[at][0] = 0; /* it is told once */
+            buffer_bulk(&found, all[at].name, strlen(all[at].name));
+            buffer_bulk(&found, all[at].value, strlen(all[at].value));
+            is_told[at] = true;
             count++;
         }
     }
     buffer_print(&out, client->is_three ? "%%%zu\r\n" : "*%zu\r\n", client->is_three ? count : 2 * count);
     buffer_put(&out, buffer_at(&found), buffer_len(&found));
-    request_answer_own(client, (const char *)buffer_at(&out), buffer_len(&out));
+    request_answer_with(client, &out);
     buffer_free(&found);
-    buffer_free(&out);
 }

@@ -13,9 +13,9 @@ static sample samples[SECONDS + 1];
 static size_t last; /* the newest one */
 
 static const char head[] =
-    "<!DOCTYPE html><html lang=en><meta charset=utf-8><meta http-equiv=refresh "
-    "content=2><title>slotroute-proxy"
-    "</title><style>:root{color-scheme:light dark}body{font:15px/1.4 system-ui,sans-serif;margin:1.5rem auto;"
+    "<!DOCTYPE html><html lang=en><meta charset=utf-8><meta http-equiv=refresh content=2>"
+    "<title>slotroute-proxy</title><style>:root{color-scheme:light dark}body{font:15px/1.4 "
+    "system-ui,sans-serif;margin:1.5rem auto;"
     "max-width:64rem;padding:0 1rem;font-variant-numeric:tabular-nums}h1{font-size:1.3rem}h2{font-size:1rem;"
     "margin:1.6rem 0 .3rem}p,th,dt{opacity:.7;margin:0}dl{display:flex;flex-wrap:wrap;gap:1rem 2.2rem}"
     "dd{margin:0;font-size:1.4rem}svg{width:100%;display:block;border:1px solid #8886}table{width:100%;"
@@ -38,7 +38,8 @@ void page_tick(const worker *it) {
 }
 
 static void write_tile(buffer *out, const char *name, const char *unit, double value) {
-    buffer_print(out, "<div><dt>%s<dd>%.*f%s</div>", name, value < 10 && value > 0 ? 2 : 0, value, unit);
+    bool is_whole = value >= 10 || value <= (double)(uint64_t)value;
+    buffer_print(out, "<div><dt>%s<dd>%.*f%s</div>", name, is_whole ? 0 : 2, value, unit);
 }
 
 /* Milliseconds below which this part of the last minute's commands took. */
@@ -98,12 +99,11 @@ static unsigned hue(uint64_t number) { return (unsigned)(number * 137 + 210) % 3
 
 /* The slots from left to right, in the colors of their nodes. */
 static void write_strip(const worker *it, buffer *out) {
-    buffer_print(out,
-                 "<h2>Slots</h2><p>%zu of %d have a node. The map was read %.1f seconds ago.</p><svg "
-                 "viewBox='0 0 %d 1' "
-                 "height=36 preserveAspectRatio=none role=img aria-label='the node of each slot'>",
-                 it->map.slots, SLOTROUTE_SLOTS, (double)(it->now - it->map.read_at) / SECOND,
-                 SLOTROUTE_SLOTS);
+    buffer_print(
+        out,
+        "<h2>Slots</h2><p>%zu of %d have a node. The map was read %.1f seconds ago.</p><svg "
+        "viewBox='0 0 %d 1' height=36 preserveAspectRatio=none role=img aria-label='the node of each slot'>",
+        it->map.slots, SLOTROUTE_SLOTS, (double)(it->now - it->map.read_at) / SECOND, SLOTROUTE_SLOTS);
     for (size_t first = 0, end; first < SLOTROUTE_SLOTS; first = end) {
         uint16_t owner = owner_of(it, first);
         for (end = first + COLUMN; end < SLOTROUTE_SLOTS && owner_of(it, end) == owner;)
@@ -151,7 +151,7 @@ void page_write(const worker *it, buffer *out) {
     buffer_print(out,
                  "<h1>slotroute-proxy %s</h1><p%s>%s: %zu of %zu nodes are up. It runs since %llu seconds, "
                  "with %llu threads.</p>",
-                 layer_version(), figures_is_ready(it) ? "" : " class=bad",
+                 SLOTROUTE_VERSION, figures_is_ready(it) ? "" : " class=bad",
                  figures_is_ready(it) ? "Ready" : "Not ready", figures_nodes_up(&nodes), nodes.count,
                  (unsigned long long)((it->now - the_proxy.start) / SECOND),
                  (unsigned long long)the_proxy.settings.threads);

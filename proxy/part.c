@@ -151,7 +151,7 @@ void part_reply(request *it, uint32_t at, node *from, const uint8_t *reply, size
     } else if (it->is_transaction ? !transaction_follow(it, at, from, reply, len)
                                   : !redirect_follow(it, at, from, reply, len)) {
         figure_add(&from->worker->stats.counts[COUNT_NODE_ERRORS], 1);
-        figure_add(&from->figures[NODE_ERRORS], 1);
+        node_count(from, NODE_ERRORS);
         part_finish(it, at, reply, len);
     }
     if (client != NULL && client->held > 0)
@@ -176,11 +176,10 @@ void part_lost(request *it, uint32_t at, node *lost_at, bool was_sent) {
         drop(it, at);
         return;
     }
-    worker *worker = client->worker;
     if (fate == FATE_AGAIN) {
         part->to = NULL;
         part->asking = false;
-        part->due = worker->now + LONGER_PAUSE;
+        part->due = client->worker->now + LONGER_PAUSE;
         part_hold(it, at, PART_AGAIN);
         return;
     }

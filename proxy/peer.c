@@ -29,8 +29,7 @@ void peer_watch(worker *worker, peer *peer, uint32_t events) {
 }
 
 void peer_set_up(int fd) {
-    int one = 1, idle = 60, pause = 10,
-        tries = 3; /* seconds until a connection without its other side ends */
+    int one = 1, idle = 60, pause = 10, tries = 3; /* seconds until a dead connection ends */
     fcntl(fd, F_SETFL, O_NONBLOCK);
     fcntl(fd, F_SETFD, FD_CLOEXEC);
     setsockopt(fd, IPPROTO_TCP, TCP_NODELAY, &one, sizeof one);
@@ -94,6 +93,16 @@ void address_split(const char *address, char *host, uint16_t *port) {
     host[len] = 0;
 }
 
+/* Has a socket listen at an address, or closes it, and returns -1. */
+static int listen_on(int fd, const struct sockaddr *address, socklen_t len, const char *name) {
+    if (fd >= 0 && bind(fd, address, len) == 0 && listen(fd, BACKLOG) == 0)
+        return fd;
+    warn("%s: %s", name, strerror(errno));
+    if (fd >= 0)
+        close(fd);
+    return -1;
+}
+
 int listen_at(const char *address) {
     char host[HOST_ROOM];
     uint16_t port = 0;
@@ -107,12 +116,7 @@ int listen_at(const char *address) {
     }
     int one = 1, fd = socket(found->ai_family, SOCK_STREAM | SOCK_NONBLOCK | SOCK_CLOEXEC, 0);
     setsockopt(fd, SOL_SOCKET, SO_REUSEADDR, &one, sizeof one);
-    if (fd < 0 || bind(fd, found->ai_addr, found->ai_addrlen) != 0 || listen(fd, BACKLOG) != 0) {
-        warn("%s: %s", address, strerror(errno));
-        if (fd >= 0)
-            close(fd);
-        fd = -1;
-    }
+    fd = listen_on(fd, found->ai_addr, found->ai_addrlen, address);
     freeaddrinfo(found);
     return fd;
 }
@@ -127,12 +131,6 @@ int listen_unix(const char *path) {
     memcpy(address.sun_path, path, strlen(path));
     if (stat(path, &old) == 0 && S_ISSOCK(old.st_mode))
         unlink(path);
-    int fd = socket(AF_UNIX, SOCK_STREAM | SOCK_NONBLOCK | SOCK_CLOEXEC, 0);
-    if (fd < 0 || bind(fd, (struct sockaddr *)&address, sizeof address) != 0 || listen(fd, BACKLOG) != 0) {
-        warn("%s: %s", path, strerror(errno));
-        if (fd >= 0)
-            close(fd);
-        return -1;
-    }
-    return fd;
+    return listen_on(socket(AF_UNIX, SOCK_STREAM | SOCK_NONBLOCK | SOCK_CLOEXEC, 0),
+                     (struct sockaddr *)&address, sizeof address, path);
 }

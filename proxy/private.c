@@ -69,8 +69,7 @@ void private_drop(client *client) {
     drop_own(client);
 }
 
-/* The node says nothing on this connection for as long as its client waits. So it is asked on the shared one.
- */
+/* The node says nothing on this connection for as long as its client waits. So the shared one asks it. */
 void private_tick(node *own) {
     static const char ping[] = "*1\r\n$4\r\nPING\r\n";
     worker *worker = own->worker;

@@ -1,5 +1,4 @@
-/* A connection to a node that one client has alone: for commands that wait, as BLPOP, and for subscriptions.
- */
+/* A connection to a node that one client has alone: for BLPOP and its like, WATCH, and subscriptions. */
 #ifndef PROXY_PRIVATE_H
 #define PROXY_PRIVATE_H
 

@@ -136,12 +136,10 @@ struct node {
     slotroute_progress progress;
     waiter *queue; /* a ring */
     size_t first, count, room;
-    uint64_t given, sent,
-        replies;      /* bytes put into `out` and bytes written, and replies read, since it was opened */
-    uint64_t asked;   /* how many replies were asked for since it was opened */
-    uint64_t heard;   /* when it said something, or was asked while it owed nothing */
-    uint64_t failed;  /* when a connection failed last, or 0 */
-    const char *lost; /* why the connection is closed at the end of the round, or NULL */
+    uint64_t given, sent, asked, replies; /* since it was opened: bytes for it and written, and replies */
+    uint64_t heard;                       /* when it said something, or was asked while it owed nothing */
+    uint64_t failed;                      /* when a connection failed last, or 0 */
+    const char *lost;                     /* why the connection is closed at the end of the round, or NULL */
     char why[128];
     node *next_dirty, *next_left, *next_ear;
     client *client; /* who has it alone, or NULL */
@@ -155,10 +153,9 @@ struct node {
 
 /* Where slots are. */
 typedef struct topology {
-    uint16_t owner[SLOTROUTE_SLOTS]; /* the number of its node, or SLOTROUTE_NO_NODE */
-    uint64_t
-        moving[SLOTROUTE_SLOTS]; /* until when the commands of a client on a slot go one after the other */
-    uint64_t moving_until;       /* the latest of these */
+    uint16_t owner[SLOTROUTE_SLOTS];  /* the number of its node, or SLOTROUTE_NO_NODE */
+    uint64_t moving[SLOTROUTE_SLOTS]; /* until when a client's commands on a slot go one after the other */
+    uint64_t moving_until;            /* the latest of these */
     node *primaries[MOST_NODES], *all[MOST_NODES];
     size_t primary_count, all_count, slots, next_any, next_asked, tries;
     bool has_map, is_wanted, is_asked;

@@ -8,10 +8,6 @@
 
 enum { MANY_REDIRECTS = 5 }; /* in a row, after which each has a pause */
 
-static bool begins(const uint8_t *error, size_t len, const char *text) {
-    return len >= strlen(text) && memcmp(error, text, strlen(text)) == 0;
-}
-
 /* Whether the error says that the command did nothing, and may do it after a while. A script can write such
  * an error itself, after effects. Commands after MULTI are not run yet, so their errors are as good. */
 static bool is_pause(const request *request, const uint8_t *error, size_t len) {
@@ -68,10 +64,8 @@ bool redirect_follow(request *request, uint32_t part, node *from, const uint8_t 
     } else {
         figure_add(&worker->stats.counts[COUNT_ASK], 1);
         topology_slows(worker, it->slot);
-        if (request->is_transaction) /* ASKING holds for one command, and MULTI would be it */
-            hold_for(request, part, NULL, false, PAUSE);
-        else
-            hold_for(request, part, to, true, pause);
+        bool waits = request->is_transaction; /* ASKING holds for one command, and MULTI would be it */
+        hold_for(request, part, waits ? NULL : to, !waits, waits ? PAUSE : pause);
     }
     return true;
 }

@@ -197,11 +197,15 @@ void request_answer_own(client *client, const char *text, size_t len) {
     part_keep(it, 0, (const uint8_t *)text, len);
 }
 
+void request_answer_with(client *client, buffer *out) {
+    request_answer_own(client, (const char *)buffer_at(out), buffer_len(out));
+    buffer_free(out);
+}
+
 void request_refuse(client *client, const char *text) {
     buffer error = {0};
     buffer_print(&error, "-ERR %s\r\n", text);
-    request_answer_own(client, (const char *)buffer_at(&error), buffer_len(&error));
-    buffer_free(&error);
+    request_answer_with(client, &error);
 }
 
 void requests_disown(client *client) {

@@ -5,6 +5,8 @@
 #include "commands.h"
 #include "proxy.h"
 
+#include <string.h>
+
 /* Sends a request to where the library says. False if it has to wait until the client's earlier requests
  * are answered: then nothing was done. */
 bool request_begin(client *client, const uint8_t *bytes, size_t len, command_kind kind);
@@ -25,6 +27,9 @@ void request_begin_scan(client *client, const buffer *bytes, node *to);
 /* Answers a request with a text of the proxy's own, once the earlier ones are answered. */
 void request_answer_own(client *client, const char *text, size_t len);
 
+/* The same with what a buffer has, which is freed. */
+void request_answer_with(client *client, buffer *out);
+
 /* An error with this text. */
 void request_refuse(client *client, const char *text);
 
@@ -40,6 +45,11 @@ void part_send(request *request, uint32_t part);
 
 /* Keeps a reply until all earlier ones are written. */
 void part_keep(request *request, uint32_t part, const uint8_t *reply, size_t len);
+
+/* Whether a reply begins with this text. */
+static inline bool begins(const uint8_t *reply, size_t len, const char *text) {
+    return len >= strlen(text) && memcmp(reply, text, strlen(text)) == 0;
+}
 
 /* The reply that was kept. */
 static inline const uint8_t *part_reply_bytes(const part *part) {

@@ -1,5 +1,4 @@
-/* SCAN over all primaries, one after the other. A cursor holds the number of a primary and its cursor there.
- */
+/* SCAN over all primaries in turn. A cursor holds the number of a primary and its cursor there. */
 #ifndef PROXY_SCAN_H
 #define PROXY_SCAN_H
 

@@ -9,7 +9,7 @@
 #include <string.h>
 
 /* SECRET: a text that is the first line of a file. */
-typedef enum kind { TEXT, SECRET, NUMBER, SIZE, SWITCH, SEED, NAME } kind;
+typedef enum kind { TEXT, ADDRESS, SECRET, NUMBER, SIZE, SWITCH, SEED, NAME } kind;
 
 typedef struct row {
     const char *name, *says;
@@ -22,9 +22,9 @@ typedef struct row {
 static const row rows[] = {
     {"node", "HOST:PORT of a node; may be given several times", SEED, AT(seeds), 0, 0},
     {"take", "NAME of a module's command on one key; may be given several times", NAME, 0, 0, 0},
-    {"listen", "ADDR:PORT for clients (127.0.0.1:6380)", TEXT, AT(listen), 0, 0},
+    {"listen", "ADDR:PORT for clients (127.0.0.1:6380)", ADDRESS, AT(listen), 0, 0},
     {"unix", "PATH of a socket for clients", TEXT, AT(unix_path), 0, 0},
-    {"metrics", "ADDR:PORT of figures, by HTTP", TEXT, AT(metrics), 0, 0},
+    {"metrics", "ADDR:PORT of figures, by HTTP", ADDRESS, AT(metrics), 0, 0},
     {"log", "PATH of the log (standard error)", TEXT, AT(log), 0, 0},
     {"threads", "how many event loops (1)", NUMBER, AT(threads), 1, MOST_THREADS},
     {"tls", "clients speak TLS", SWITCH, AT(tls), 0, 0},
@@ -130,10 +130,8 @@ static const char *set_text(text *field, const char *value) {
 /* Sets a value. Returns what is wrong, or NULL. */
 static const char *set(settings *settings, const row *row, const char *value) {
     void *field = (char *)settings + row->at;
-    bool is_place =
-        row->kind == SEED || strcmp(row->name, "listen") == 0 || strcmp(row->name, "metrics") == 0;
     uint64_t found = 0;
-    if (is_place && !is_address(value))
+    if ((row->kind == SEED || row->kind == ADDRESS) && !is_address(value))
         return "is not HOST:PORT";
     if (row->kind == SEED) {
         if (settings->seed_count == MOST_SEEDS)
@@ -143,8 +141,8 @@ static const char *set(settings *settings, const row *row, const char *value) {
     }
     if (row->kind == NAME)
         return is_again ? NULL : commands_take(value);
-    if (row->kind == TEXT || row->kind == SECRET)
-        return set_text(field, row->kind == TEXT ? value : read_secret(value));
+    if (row->kind <= SECRET)
+        return set_text(field, row->kind == SECRET ? read_secret(value) : value);
     if (row->kind == SWITCH) {
         *(number *)field = strcmp(value, "yes") == 0;
         return strcmp(value, "yes") == 0 || strcmp(value, "no") == 0 ? NULL : "is neither yes nor no";
@@ -217,7 +215,7 @@ static int read_flag(settings *settings, int count, char **words, int at) {
         exit(0);
     }
     if (strcmp(name, "--version") == 0) {
-        printf("slotroute-proxy %s\n", layer_version());
+        printf("slotroute-proxy %s\n", SLOTROUTE_VERSION);
         exit(0);
     }
     if (strcmp(name, "--config") == 0 && value != NULL)
@@ -286,7 +284,7 @@ static void renew(settings *settings, const struct settings *from, const row *ro
         return;
     if (row < rows + FIXED)
         warn("%s stays as it was at the start", row->name);
-    else if (row->kind == TEXT || row->kind == SECRET)
+    else if (row->kind <= SECRET)
         *(text *)field = *(const text *)found;
     else
         *(number *)field = *(const number *)found;

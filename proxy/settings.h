@@ -21,9 +21,9 @@ typedef struct settings {
     text password, node_password, node_user;
     text tls_cert, tls_key, tls_ca, node_tls_name;
     number threads, max_clients;
-    number max_message, max_reply;                 /* bytes of a request, of a reply */
-    number client_memory, memory;                  /* bytes that one client, and all, may take */
-    number timeout, retry, client_timeout, drain;  /* milliseconds */
+    number max_message, max_reply;                /* bytes of a request, of a reply */
+    number client_memory, memory;                 /* bytes that one client, and all, may take */
+    number timeout, retry, client_timeout, drain; /* milliseconds */
     number quiet, split_transactions, tls, tls_auth_clients, node_tls; /* 0 or 1 */
 } settings;
 

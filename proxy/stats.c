@@ -4,42 +4,34 @@
 #include <string.h>
 
 typedef struct row {
-    const char *info, *name, *type, *says;
+    const char *info, *name, *says;
 } row;
 
 static const row rows[COUNTERS] = {
-    [COUNT_CLIENTS_NOW] = {"connected_clients", "clients", "gauge", "clients that are connected"},
-    [COUNT_CLIENTS_TAKEN] = {"total_connections_received", "clients_total", "counter",
-                             "clients since the start"},
-    [COUNT_CLIENTS_REFUSED] = {"rejected_connections", "clients_refused_total", "counter",
-                               "clients above the limit"},
-    [COUNT_CLIENTS_CLOSED] = {"closed_connections", "clients_closed_total", "counter",
+    [COUNT_CLIENTS_NOW] = {"connected_clients", "clients", "clients that are connected"},
+    [COUNT_CLIENTS_TAKEN] = {"total_connections_received", "clients_total", "clients since the start"},
+    [COUNT_CLIENTS_REFUSED] = {"rejected_connections", "clients_refused_total", "clients above the limit"},
+    [COUNT_CLIENTS_CLOSED] = {"closed_connections", "clients_closed_total",
                               "clients that the proxy closed, and the log says why"},
-    [COUNT_COMMANDS] = {"total_commands_processed", "commands_total", "counter", "commands of clients"},
-    [COUNT_SPLIT] = {"split_commands", "split_commands_total", "counter", "commands that were split by slot"},
-    [COUNT_PARTS] = {"parts", "parts_total", "counter", "commands that were sent to nodes"},
-    [COUNT_MOVED] = {"moved", "moved_total", "counter", "MOVED that was followed"},
-    [COUNT_ASK] = {"ask", "ask_total", "counter", "ASK that was followed"},
-    [COUNT_TRYAGAIN] = {"pauses", "pauses_total", "counter",
-                        "TRYAGAIN, CLUSTERDOWN and LOADING that were waited out"},
-    [COUNT_RETRIES] = {"retries", "retries_total", "counter", "commands that were sent to nodes again"},
-    [COUNT_HELD] = {"held", "held_total", "counter", "commands that waited for an earlier one of their slot"},
-    [COUNT_NODE_ERRORS] = {"error_replies", "error_replies_total", "counter",
-                           "errors of nodes that clients got"},
-    [COUNT_OWN_ERRORS] = {"own_errors", "own_errors_total", "counter",
-                          "errors of the proxy that clients got"},
-    [COUNT_UNKNOWN_END] = {"unknown_ends", "unknown_ends_total", "counter",
-                           "commands that may have taken effect"},
-    [COUNT_NODES_LOST] = {"node_connections_lost", "node_connections_lost_total", "counter",
+    [COUNT_COMMANDS] = {"total_commands_processed", "commands_total", "commands of clients"},
+    [COUNT_SPLIT] = {"split_commands", "split_commands_total", "commands that were split by slot"},
+    [COUNT_PARTS] = {"parts", "parts_total", "commands that were sent to nodes"},
+    [COUNT_MOVED] = {"moved", "moved_total", "MOVED that was followed"},
+    [COUNT_ASK] = {"ask", "ask_total", "ASK that was followed"},
+    [COUNT_TRYAGAIN] = {"pauses", "pauses_total", "TRYAGAIN, CLUSTERDOWN and LOADING that were waited out"},
+    [COUNT_RETRIES] = {"retries", "retries_total", "commands that were sent to nodes again"},
+    [COUNT_HELD] = {"held", "held_total", "commands that waited for an earlier one of their slot"},
+    [COUNT_NODE_ERRORS] = {"error_replies", "error_replies_total", "errors of nodes that clients got"},
+    [COUNT_OWN_ERRORS] = {"own_errors", "own_errors_total", "errors of the proxy that clients got"},
+    [COUNT_UNKNOWN_END] = {"unknown_ends", "unknown_ends_total", "commands that may have taken effect"},
+    [COUNT_NODES_LOST] = {"node_connections_lost", "node_connections_lost_total",
                           "connections to nodes that ended"},
-    [COUNT_NODES_OPENED] = {"node_connections", "node_connections_total", "counter",
-                            "connections to nodes that began"},
-    [COUNT_MAPS] = {"maps", "maps_total", "counter", "maps of the cluster that were read"},
-    [COUNT_STRAY] = {"stray_replies", "stray_replies_total", "counter", "replies that nobody waited for"},
-    [COUNT_MEMORY] = {"used_memory", "memory_bytes", "gauge", "bytes of buffers and requests"},
-    [COUNT_BYTES_IN] = {"total_net_input_bytes", "read_bytes_total", "counter", "bytes read from clients"},
-    [COUNT_BYTES_OUT] = {"total_net_output_bytes", "written_bytes_total", "counter",
-                         "bytes written to clients"},
+    [COUNT_NODES_OPENED] = {"node_connections", "node_connections_total", "connections to nodes that began"},
+    [COUNT_MAPS] = {"maps", "maps_total", "maps of the cluster that were read"},
+    [COUNT_STRAY] = {"stray_replies", "stray_replies_total", "replies that nobody waited for"},
+    [COUNT_MEMORY] = {"used_memory", "memory_bytes", "bytes of buffers and requests"},
+    [COUNT_BYTES_IN] = {"total_net_input_bytes", "read_bytes_total", "bytes read from clients"},
+    [COUNT_BYTES_OUT] = {"total_net_output_bytes", "written_bytes_total", "bytes written to clients"},
 };
 
 void stats_took(stats *stats, uint64_t microseconds) {
@@ -90,17 +82,21 @@ void stats_info(buffer *out) {
         buffer_print(out, "above:%llu\r\n", (unsigned long long)stats_took_sum(LATENCY_STEPS - 1));
 }
 
-void stats_head(buffer *out, const char *name, const char *type, const char *says) {
+void stats_head(buffer *out, const char *name, const char *says) {
+    const char *end = strrchr(name, '_');
+    const char *type = end != NULL && strcmp(end, "_total") == 0 ? "counter"
+                       : strcmp(name, "seconds") == 0            ? "histogram"
+                                                                 : "gauge";
     buffer_print(out, "# HELP slotroute_proxy_%s %s\n# TYPE slotroute_proxy_%s %s\n", name, says, name, type);
 }
 
 void stats_prometheus(buffer *out) {
     for (counter at = 0; at < COUNTERS; at++) {
-        stats_head(out, rows[at].name, rows[at].type, rows[at].says);
+        stats_head(out, rows[at].name, rows[at].says);
         buffer_print(out, "slotroute_proxy_%s %llu\n", rows[at].name, (unsigned long long)stats_count(at));
     }
     uint64_t below = 0;
-    stats_head(out, "seconds", "histogram", "how long commands took, except those that wait");
+    stats_head(out, "seconds", "how long commands took, except those that wait");
     for (size_t at = 0; at < LATENCY_STEPS; at++) {
         below += stats_took_sum(at);
         if (at + 1 < LATENCY_STEPS)

@@ -35,8 +35,7 @@ typedef enum counter {
 
 enum { LATENCY_STEPS = 24 }; /* step i has what took less than 2^i microseconds, the last one the rest */
 
-/* What is counted of a connection to a node that clients share. Those from IN_FLIGHT on are set at each tick.
- */
+/* What is counted of the connections to a node that clients share. From IN_FLIGHT on, ticks set it. */
 typedef enum node_figure {
     NODE_REQUESTS,
     NODE_ERRORS, /* that clients got */
@@ -96,6 +95,6 @@ void stats_info(buffer *out);
 void stats_prometheus(buffer *out);
 
 /* Writes what stands before a figure for Prometheus. */
-void stats_head(buffer *out, const char *name, const char *type, const char *says);
+void stats_head(buffer *out, const char *name, const char *says);
 
 #endif

@@ -20,10 +20,6 @@ static const char end_question[] = "*2\r\n$11\r\nUNSUBSCRIBE\r\n$13\r\n__key:the
 /* After its mark, which is `*`, or `>` in version 3. */
 static const char end_reply[] = "3\r\n$11\r\nunsubscribe\r\n$13\r\n__key:the-end\r\n";
 
-static bool begins(const uint8_t *reply, size_t len, const char *text) {
-    return len >= strlen(text) && memcmp(reply, text, strlen(text)) == 0;
-}
-
 static bool is_about_keys(word name) {
     return name.len >= sizeof keys - 1 && memcmp(name.text, keys, sizeof keys - 1) == 0;
 }
@@ -40,9 +36,8 @@ static bool names_keys(words channels) {
 static bool is_more(word name) { return name.len <= sizeof "PSUBSCRIBE" - 1; }
 
 static void put_one(buffer *out, const char *name, word channel) {
-    buffer_print(out, "*2\r\n$%zu\r\n%s\r\n$%zu\r\n", strlen(name), name, channel.len);
-    buffer_put(out, channel.text, channel.len);
-    buffer_text(out, "\r\n");
+    buffer_print(out, "*2\r\n$%zu\r\n%s\r\n", strlen(name), name);
+    buffer_bulk(out, channel.text, channel.len);
 }
 
 /* Takes from `told` the request with this name and channel, or all with this name. */
@@ -64,8 +59,7 @@ static void forget(buffer *told, const char *name, const word *channel) {
     *told = left;
 }
 
-/* Changes `told` by a command, and writes what it means for the other primaries: nothing, if the command is
- * not about keys. */
+/* Changes `told` by a command, and writes what it means for the other primaries, if it is about keys. */
 static void note(client *client, word name, words channels, buffer *out) {
     bool is_pattern = name.text[0] == 'p' || name.text[0] == 'P', had = buffer_len(&client->told) > 0;
     const char *adds = is_pattern ? "PSUBSCRIBE" : "SUBSCRIBE";
@@ -119,12 +113,11 @@ static void answer_none(client *client, word name, words channels) {
     if (channels.left == 0)
         buffer_print(&out, "%c%s\r\n%s\r\n:0\r\n", mark, kind, client->is_three ? "_" : "$-1");
     while (words_next(&channels, &channel)) {
-        buffer_print(&out, "%c%s\r\n$%zu\r\n", mark, kind, channel.len);
-        buffer_put(&out, channel.text, channel.len);
-        buffer_text(&out, "\r\n:0\r\n");
+        buffer_print(&out, "%c%s\r\n", mark, kind);
+        buffer_bulk(&out, channel.text, channel.len);
+        buffer_text(&out, ":0\r\n");
     }
-    request_answer_own(client, (const char *)buffer_at(&out), buffer_len(&out));
-    buffer_free(&out);
+    request_answer_with(client, &out);
 }
 
 bool subscription_begin(client *client, const uint8_t *bytes, size_t len) {

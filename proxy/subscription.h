@@ -20,8 +20,7 @@ bool subscription_begin(client *client, const uint8_t *bytes, size_t len);
 bool subscription_has(const node *own, const uint8_t *reply, size_t len);
 void subscription_message(node *own, const uint8_t *message, size_t len);
 
-/* All replies to a part of a command have come. The last part's says how many subscriptions the client has.
- */
+/* All replies to a part of a command have come. The last part's says how many subscriptions there are. */
 void subscription_end(request *request, uint32_t part, const uint8_t *reply, size_t len);
 
 /* The map was read: what is told of keys comes from its primaries. */

@@ -10,13 +10,8 @@
 #include <stdlib.h>
 #include <string.h>
 
-enum {
-    SOONEST = 100 * MILLISECOND,
-    LATER = 250 * MILLISECOND,
-    PATIENCE = SECOND,
-    EVERY = 10 * SECOND,
-    RECENT = 30 * SECOND
-};
+enum { SOONEST = 100 * MILLISECOND, LATER = 250 * MILLISECOND };
+enum { PATIENCE = SECOND, EVERY = 10 * SECOND, RECENT = 30 * SECOND };
 
 static const char question[] = "*2\r\n$7\r\nCLUSTER\r\n$5\r\nSLOTS\r\n";
 
@@ -142,10 +137,10 @@ static bool take_map(worker *worker, node *from, const uint8_t *reply, size_t le
         add_all(map, found, count);
         memcpy(map->primaries, map->all, map->all_count * sizeof *map->all);
         map->primary_count = map->all_count;
-        for (size_t at = 0; at < map->primary_count; at++)
+        for (size_t at = 0; at < map->primary_count; at++) {
             map->primaries[at]->is_primary = true;
-        for (size_t at = 0; at < map->primary_count; at++)
             scan_number(map->primaries[at]);
+        }
         take_owners(worker, numbers, found, count);
         buffer_drop(&lines, buffer_len(&lines));
         layer_replicas(&text, from->host, &lines);
@@ -158,17 +153,23 @@ static bool take_map(worker *worker, node *from, const uint8_t *reply, size_t le
     return is_map;
 }
 
+/* A node of the map that failed a while ago, and may be back. NULL if there is none, or no time to look. */
+static node *to_look_after(const worker *worker) {
+    const topology *map = &worker->map;
+    for (size_t at = 0; !map->is_wanted && at < map->all_count; at++)
+        if (map->all[at]->is_failing && worker->now > map->all[at]->failed + RECENT)
+            return map->all[at];
+    return NULL;
+}
+
 /* Asks the next node: one of the map that did not fail, or else any that is known. */
 static void ask_next(worker *worker) {
     topology *map = &worker->map;
-    node *chosen = NULL;
-    for (size_t tried = 0; tried < worker->node_count; tried++) {
+    node *chosen = to_look_after(worker);
+    for (size_t tried = 0; chosen == NULL && tried < worker->node_count; tried++) {
         node *it = worker->nodes[map->next_asked++ % worker->node_count];
         bool is_good = !it->is_failing && (it->is_in_map || !map->has_map);
-        if (is_good || map->tries >= map->all_count) {
-            chosen = it;
-            break;
-        }
+        chosen = is_good || map->tries >= map->all_count ? it : NULL;
     }
     map->tries++;
     if (chosen == NULL) {

@@ -10,8 +10,6 @@
 
 static const char unwatch[] = "*1\r\n$7\r\nUNWATCH\r\n";
 
-static void answer(client *client, const char *text) { request_answer_own(client, text, strlen(text)); }
-
 void transaction_drop(client *client) {
     buffer_free(&client->multi);
     buffer_free(&client->multi_list);
@@ -30,14 +28,14 @@ static bool execute(client *client) {
     if (client->is_watching && client->first != NULL)
         return false;
     if (client->is_multi_bad || (client->is_watching && client->is_watch_lost)) {
-        answer(client, client->is_multi_bad
-                           ? "-EXECABORT Transaction discarded because of previous errors.\r\n"
-                           : own_nil(client->is_three));
+        own_text(client, client->is_multi_bad
+                             ? "-EXECABORT Transaction discarded because of previous errors.\r\n"
+                             : own_nil(client->is_three));
         discard(client);
         return true;
     }
     if (buffer_len(&client->multi) == 0 && !client->is_watching)
-        answer(client, "*0\r\n");
+        own_text(client, "*0\r\n");
     else
         request_begin_transaction(client);
     transaction_drop(client);
@@ -51,7 +49,7 @@ static bool watch(client *client, const uint8_t *bytes, size_t len) {
         request_refuse(client, "WATCH inside MULTI is not allowed");
     } else if (has_route &&
                (to.kind == SLOTROUTE_TO_SLOTS || (client->is_watching && to.slot != client->multi_slot))) {
-        answer(client, "-CROSSSLOT the proxy watches keys of one slot\r\n");
+        own_text(client, "-CROSSSLOT the proxy watches keys of one slot\r\n");
     } else if (!has_route || to.kind != SLOTROUTE_TO_SLOT) {
         request_refuse(client, "wrong number of arguments for 'watch' command");
     } else if (client->first != NULL) {
@@ -77,19 +75,19 @@ bool transaction_command(client *client, const uint8_t *bytes, size_t len) {
         transaction_queue(client, bytes, len, COMMAND_TRANSACTION);
     } else if (word_is(name, "UNWATCH")) {
         discard(client);
-        answer(client, "+OK\r\n");
+        own_text(client, "+OK\r\n");
     } else if (word_is(name, "MULTI") && client->is_multi) {
         request_refuse(client, "MULTI calls can not be nested");
     } else if (word_is(name, "MULTI")) {
         client->is_multi = true;
-        answer(client, "+OK\r\n");
+        own_text(client, "+OK\r\n");
     } else if (!client->is_multi) {
         request_refuse(client, word_is(name, "EXEC") ? "EXEC without MULTI" : "DISCARD without MULTI");
     } else if (word_is(name, "EXEC")) {
         return execute(client);
     } else {
         discard(client);
-        answer(client, "+OK\r\n");
+        own_text(client, "+OK\r\n");
     }
     return true;
 }
@@ -109,11 +107,11 @@ static bool is_keyless(const uint8_t *bytes, size_t len, command_kind kind, cons
 static const char *fault_of(const client *client, uint16_t slot, size_t len) {
     bool is_other = slot != NO_SLOT && client->multi_slot != NO_SLOT && slot != client->multi_slot;
     if (is_other && client->is_watching)
-        return "CROSSSLOT a transaction after WATCH has keys of the watched slot alone";
+        return "-CROSSSLOT a transaction after WATCH has keys of the watched slot alone\r\n";
     if (is_other && !the_proxy.settings.split_transactions)
-        return "CROSSSLOT the commands of a transaction have keys in several slots";
+        return "-CROSSSLOT the commands of a transaction have keys in several slots\r\n";
     return buffer_len(&client->multi) + len > the_proxy.settings.max_message
-               ? "ERR the transaction is too long"
+               ? "-ERR the transaction is too long\r\n"
                : NULL;
 }
 
@@ -122,22 +120,20 @@ void transaction_queue(client *client, const uint8_t *bytes, size_t len, command
     bool is_read = layer_route(bytes, len, &to), has_no_key = is_keyless(bytes, len, kind, &to);
     bool is_right = is_read && (has_no_key || (command_is_taken(kind) && to.kind == SLOTROUTE_TO_SLOT));
     queued_command it = {.len = len, .slot = has_no_key ? NO_SLOT : (uint16_t)to.slot};
-    const char *fault = is_right ? fault_of(client, it.slot, len)
-                                 : "ERR the proxy does not take this in a transaction: it takes commands on "
-                                   "keys of one slot";
-    if (fault != NULL) {
-        buffer error = {0};
-        buffer_print(&error, "-%s\r\n", fault);
+    const char *fault = is_right ? fault_of(client, it.slot, len) : NULL;
+    if (!is_right)
+        client_refuse(client, bytes, len, "in a transaction it takes commands on keys of one slot");
+    if (fault != NULL)
+        own_text(client, fault);
+    if (!is_right || fault != NULL) {
         client->is_multi_bad = true;
-        request_answer_own(client, (const char *)buffer_at(&error), buffer_len(&error));
-        buffer_free(&error);
         return;
     }
     if (client->multi_slot == NO_SLOT)
         client->multi_slot = it.slot;
     buffer_put(&client->multi_list, &it, sizeof it);
     buffer_put(&client->multi, bytes, len);
-    answer(client, "+QUEUED\r\n");
+    own_text(client, "+QUEUED\r\n");
 }
 
 void transaction_ask(node *to, request *it, uint32_t part) {

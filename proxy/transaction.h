@@ -10,8 +10,7 @@
 #include "commands.h"
 #include "proxy.h"
 
-/* MULTI, EXEC, DISCARD, WATCH or UNWATCH. False if the client's earlier requests have to be answered first.
- */
+/* MULTI, EXEC, DISCARD, WATCH or UNWATCH. False if earlier requests have to be answered first. */
 bool transaction_command(client *client, const uint8_t *bytes, size_t len);
 
 /* A command after MULTI. */
@@ -20,8 +19,7 @@ void transaction_queue(client *client, const uint8_t *bytes, size_t len, command
 /* Forgets the transaction that the client has begun, and what it watches. */
 void transaction_drop(client *client);
 
-/* The pieces of a transaction: their bytes, the number of the piece of each command (uint32_t), and their
- * parts. */
+/* The pieces of a transaction: their bytes, the piece of each command (uint32_t), and their parts. */
 typedef struct pieces {
     buffer bytes, order, parts;
     uint32_t count;

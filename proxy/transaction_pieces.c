@@ -8,8 +8,7 @@ enum { MULTI_LEN = sizeof multi - 1, EXEC_LEN = sizeof exec - 1 };
 
 static part *parts_of(const pieces *it) { return (part *)(void *)buffer_at(&it->parts); }
 
-/* The number of the piece of a slot, which is made if there is none. Commands without a slot are in the
- * first. */
+/* The number of the piece of a slot, which is made if there is none. Without a slot, it is the first. */
 static uint32_t piece_of(pieces *it, uint16_t *numbers, uint16_t slot) {
     if (slot == NO_SLOT)
         return 0;

@@ -46,25 +46,16 @@ worker *worker_new(unsigned number) {
 }
 
 static void dispatch(worker *it, peer *peer, uint32_t events) {
-    switch (peer->kind) {
-    case PEER_CLIENT:
+    if (peer->kind == PEER_CLIENT)
         client_event((client *)(void *)peer, events);
-        break;
-    case PEER_NODE:
+    else if (peer->kind == PEER_NODE)
         node_event((node *)(void *)peer, events);
-        break;
-    case PEER_GIVEN:
+    else if (peer->kind == PEER_GIVEN)
         listener_given(it);
-        break;
-    case PEER_LISTENER:
-    case PEER_FIGURES:
-        if (events & EPOLLIN && peer->fd >= 0)
-            listener_event(it, peer);
-        break;
-    case PEER_READER:
+    else if (peer->kind == PEER_READER)
         reader_event(it, peer, events);
-        break;
-    }
+    else if (events & EPOLLIN && peer->fd >= 0)
+        listener_event(it, peer);
 }
 
 /* Writes what the round has left to write, until nothing is left to do. */

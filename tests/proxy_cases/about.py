@@ -56,7 +56,7 @@ def try_clients():
 
 
 def try_lines():
-    """Empty lines are skipped, and lines of text are requests if the proxy answers them itself. Other protocols are refused."""
+    """Empty lines are skipped, and lines of text are requests if the proxy answers them itself, in their order. Other protocols are refused."""
     found = []
     for text in (
         b"\r\nPING\r\n\n  ping  hello \r\n\r\n" + request("ECHO", "x") + b"\r\nROLE\r\nQUIT\r\nPING\r\n",
@@ -73,7 +73,10 @@ def try_lines():
     pipe = subprocess.run(["redis-cli", "-p", str(PROXY), "--pipe"], input=b"".join(request("SET", f"pipe{it}", it) for it in range(1000)), capture_output=True, timeout=20)
     words = ["redis-benchmark", "-p", str(PROXY), "-n", "1000", "-q", "-t", "ping_inline,ping_mbulk,set"]
     bench = subprocess.run(words, capture_output=True, text=True, timeout=30)
-    print(found, pipe.stdout, bench.stdout[-300:])
-    is_right = found[0] == b"+PONG\r\n$5\r\nhello\r\n$1\r\nx\r\n*3\r\n$6\r\nmaster\r\n:0\r\n*0\r\n+OK\r\n" and found[6] == b"+PONG\r\n" * 2
+    waiting = raw()
+    waiting.sendall((request("GET", "none") + b"RESET\r\nECHO x\r\n") * 50 + b"QUIT\r\n")
+    is_in_order = rest_of(waiting) == b"$-1\r\n+RESET\r\n$1\r\nx\r\n" * 50 + b"+OK\r\n"
+    print(found, pipe.stdout, bench.stdout[-300:], is_in_order)
+    is_right = is_in_order and found[0] == b"+PONG\r\n$5\r\nhello\r\n$1\r\nx\r\n*3\r\n$6\r\nmaster\r\n:0\r\n*0\r\n+OK\r\n" and found[6] == b"+PONG\r\n" * 2
     is_refused = found[1].startswith(b"+PONG\r\n-ERR Protocol error") and all(it.startswith(b"-ERR Protocol error") for it in found[2:6])
     return is_right and is_refused and b"errors: 0, replies: 1000" in pipe.stdout and len(re.findall("requests per second", bench.stdout)) == 3

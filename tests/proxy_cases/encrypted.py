@@ -201,11 +201,12 @@ def try_tls_nodes():
                 found.append(client.ask_all(words))
                 big = os.urandom(4 << 20)
                 found[-1] += [client.ask("SET", "foo", big), client.ask("GET", "foo") == big, client.ask("DBSIZE")]
+                found[-1] += [client.ask("HELLO", "3")[b"proto"], *client.ask_all([["HGETALL", "none"], ["MGET", "bar", "none"], ["BLPOP", "none", "0.1"]])]
         for how in (flags(folder, authority="other"), [*flags(folder), "--node-tls-name", "proxy"], flags(folder, "stranger"), None):
             with proxy(OTHER, NODES[0], "--timeout", "1500", *(["--node-tls", *how] if how else [])) as (process, _, report):
                 refused.append((process.wait(30), said(report)))
     print(found, refused)
-    wanted = ["+OK", [b"2", b"1"], "+OK", "+QUEUED", ["+OK"], None, "+OK", True, 2]
+    wanted = ["+OK", [b"2", b"1"], "+OK", "+QUEUED", ["+OK"], None, "+OK", True, 2, 3, {}, [b"2", None], None]
     texts = ["self-signed certificate in certificate chain", "hostname mismatch", "", ""]
     return found == [wanted] * 3 and all(status == 1 and text in said for (status, said), text in zip(refused, texts))
 

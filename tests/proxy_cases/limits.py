@@ -99,7 +99,7 @@ def try_unread():
             most = max(most, memory_of(process))
         took = time.monotonic() - start
         texts = ("more than client-memory", "leaves its replies unread")
-        closed = until(20, lambda: [said(report).count(it) for it in texts] == [20, 20])
+        closed = until(60 if IS_CHECKED else 20, lambda: [said(report).count(it) for it in texts] == [20, 20])
         counts, after = [said(report).count(it) for it in texts], memory_of(process)
     print(f"memory {before}, {most}, {after} kB; twenty others: {took:.2f} s; {counts} closed after {closed} s")
     return closed is not None and (IS_CHECKED or (most - before < 400000 and after - before < 60000 and took < 3))
@@ -153,9 +153,12 @@ def try_drain():
 
 
 def try_back():
-    """After many clients with pipelines have come and gone, descriptors and memory are what they were."""
+    """After many clients with pipelines have come and gone, descriptors and memory are what they were. Connections to replicas may
+    have come, since the map is read from each node in turn. The memory of the process is what the allocator keeps of it."""
     with proxy(OTHER, PORT, "--metrics", f"127.0.0.1:{FIGURES + 1}") as (process, _, _):
-        rounds = []
+        Client(OTHER).ask_all([["MSET", "a", "1", "b", "1", "c", "1"], ["MGET", "a", "b", "c"]])
+        time.sleep(1.5)  # idle connections give back their memory after a second
+        before, rounds = (descriptors_of(process), figures(FIGURES + 1)["memory_bytes"]), []
         for _ in range(4):
             clients = [Client(OTHER) for _ in range(300)]
             for at, it in enumerate(clients):
@@ -166,12 +169,11 @@ def try_back():
             for it in clients:  # half of them close with replies on their way
                 it.lines.close()
                 it.socket.close()
-            time.sleep(0.5)
-            held = figures(FIGURES + 1)["memory_bytes"]
-            rounds.append((descriptors_of(process), held, memory_of(process)))
-    print("descriptors, bytes held, kB of the process:", rounds)
-    is_small = IS_CHECKED or rounds[-1][2] < rounds[0][2] * 1.3 + 2000
-    return rounds[-1][0] <= rounds[0][0] + 1 and abs(rounds[-1][1] - rounds[0][1]) < 200000 and is_small
+            back = until(10, lambda: figures(FIGURES + 1)["memory_bytes"] < before[1] + 64000 and descriptors_of(process) <= before[0] + 6)
+            rounds.append((back, descriptors_of(process), figures(FIGURES + 1)["memory_bytes"], memory_of(process)))
+    print(f"before: {before}; seconds until all is back, descriptors, bytes held, kB of the process: {rounds}")
+    is_small = IS_CHECKED or rounds[-1][3] < rounds[0][3] * 1.3 + 2000
+    return all(it[0] is not None for it in rounds) and is_small
 
 
 def try_many():

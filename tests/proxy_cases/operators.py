@@ -12,7 +12,7 @@ import time
 from contextlib import contextmanager, suppress
 from html.parser import HTMLParser
 
-from outside import FIGURES, figures, page
+from outside import FIGURES, figures, page, raw, rest_of
 from shared import Client, FAKE, LeftOut, OTHER, PORT, PROGRAM, ROOT, is_open, port_of, proxy, until
 
 OTHER_FIGURES = FIGURES + 1
@@ -183,6 +183,31 @@ def try_counts():
     is_right &= commands == {"SET": 1, "GET": 2, "LPUSH": 1, "SCRIPT|EXISTS": 1, "MONITOR": 3, "(unknown)": 501}
     is_right &= 3 <= gauges["nodes_up"] <= gauges["nodes"] <= 6 and gauges["slots_served"] == 16384 and gauges["map_age_seconds"] < 60
     return is_right and of_node["node_errors_total"] == 1 and of_node["node_in_flight"] == 0 and of_node["node_up"] == 1 and of_node["node_open_connections"] >= 1
+
+
+def try_counts_three():
+    """The figures of a node have its connection of version 3, too. SCAN, WATCH, inline commands, and commands of transactions are counted,
+    also those that a transaction or a command like CLIENT refuses."""
+    with proxy(OTHER, PORT, "--metrics", f"127.0.0.1:{OTHER_FIGURES}"):
+        client, node = Client(OTHER), f'{{node="127.0.0.1:{port_of("foo")}"}}'
+        client.ask_all([["GET", "foo"], ["DEL", "foo"]])
+        client.ask("HELLO", "3")
+        until(5, lambda: figures(OTHER_FIGURES).get(f"node_open_connections{node}"))
+        before = figures(OTHER_FIGURES)
+        client.ask_all([["SET", "foo", "1"], ["LPUSH", "foo", "1"], ["WATCH", "foo"], ["MULTI"], ["EVAL", "return 1", "0"], ["EVAL", "return 1", "1", "foo"], ["EXEC"]])
+        client.ask_all([["MULTI"], ["MONITOR"], ["DISCARD"], ["CLIENT", "TRACKING", "on"], ["CONFIG", "SET", "maxmemory", "1"], ["SCAN", "0"]])
+        inline = raw(OTHER)
+        inline.sendall(b"PING\r\nQUIT\r\n")
+        rest_of(inline)
+        until(5, lambda: figures(OTHER_FIGURES)[f"node_open_connections{node}"] == 2)
+        found, info = figures(OTHER_FIGURES), client.ask("INFO", "stats").decode()
+    of_node = [found[f"{it}{node}"] - before[f"{it}{node}"] for it in ("node_errors_total", "node_open_connections", "node_requests_total")]
+    commands = [found.get(f'command_calls_total{{command="{it}"}}') for it in ("SCAN", "WATCH", "EVAL", "EXEC", "PING", "QUIT", "CONFIG")]
+    refused = [found.get(f'refused_total{{command="{it}"}}') for it in ("MONITOR", "CLIENT", "CONFIG")]
+    processed = re.search("total_commands_processed:(\\d+)", info)
+    print(of_node, commands, refused, found["commands_total"], processed[0])
+    is_right = of_node[:2] == [1, 1] and of_node[2] >= 2  # SCAN may have gone there, or a question for the map
+    return is_right and commands == [1, 1, 2, 1, 1, 1, 1] and refused == [1, 1, 1] and int(processed[1]) == found["commands_total"]
 
 
 LABELS = r'\{(?:[a-z_]+="(?:[^"\\\n]|\\["\\n])*",?)*\}'

@@ -206,14 +206,14 @@ def try_pipeline():
 
 
 def try_lost():
-    """Connections that nodes close while others use them: errors, and no value of another client."""
+    """Connections that nodes close while others use them: errors of commands on their way, and no value of another client."""
     with others(4, "own") as seen:
         for port in list(range(PORT, PORT + 3)) * 20:
             time.sleep(0.05)
             Client(port).ask("CLIENT", "KILL", "TYPE", "normal")
         time.sleep(1)
     print(dict(seen))
-    return seen.keys() == {"right", "lost", "longest"}
+    return {"right", "longest"} <= seen.keys() <= {"right", "lost", "longest"}  # perhaps none was on its way
 
 
 NOT_TAKEN = [

@@ -1,5 +1,6 @@
 /* Everyday calls of hiredis: the port. Each prints a line of JSON. */
 #include <hiredis/hiredis.h>
+#include <stdbool.h>
 #include <stdio.h>
 #include <stdlib.h>
 #include <string.h>
@@ -56,6 +57,20 @@ static void call(const char *name, const char *commands) {
     free(text);
 }
 
+/* Counts the keys that SCAN gives. */
+static void scan(void) {
+    char cursor[32] = "0";
+    size_t keys = 0, calls = 0;
+    do {
+        redisReply *found = redisCommand(it, "SCAN %s COUNT 1000", cursor);
+        bool is_right = found != NULL && found->type == REDIS_REPLY_ARRAY;
+        snprintf(cursor, sizeof cursor, "%s", is_right ? found->element[0]->str : "ERROR");
+        keys += is_right ? found->element[1]->elements : 0;
+        freeReplyObject(found);
+    } while (++calls < 100 && strcmp(cursor, "0") != 0 && strcmp(cursor, "ERROR") != 0);
+    printf("[\"scan\", [%zu, \"%s\"]]\n", keys, cursor);
+}
+
 int main(int count, char **words) {
     struct timeval wait = {20, 0};
     it = count > 1 ? redisConnect("127.0.0.1", atoi(words[1])) : NULL;
@@ -66,7 +81,7 @@ int main(int count, char **words) {
     call("mset, mget, del", "MSET x 1 y 2 z 3;MGET x y none;EXISTS x y;DEL x y z");
     call("hash, list, set", "HSET h f 1;HGETALL h;RPUSH l 1 2;LRANGE l 0 -1;SADD s m;SMEMBERS s;ZADD q 1.5 m;ZRANGE q 0 -1 WITHSCORES");
     call("keys", "KEYS a");
-    call("scan", "SCAN 0 MATCH none COUNT 100000");
+    scan();
     call("pipeline", "SET p1 1;INCR p1;SET p2 1;INCR p2;SET p3 1;INCR p3");
     call("transaction", "MULTI;SET {t}1 1;INCR {t}1;SET {t}2 1;EXEC");
     call("transaction, several slots", "MULTI;SET t1 1;SET t2 1;EXEC");

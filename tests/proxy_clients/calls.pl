@@ -28,7 +28,15 @@ call("mset, mget, del", sub { [$it->mset("x", 1, "y", 2, "z", 3), [$it->mget("x"
 call("hash, list, set", sub { [$it->hset("h", "f", 1), [$it->hgetall("h")], $it->rpush("l", 1, 2), [$it->lrange("l", 0, -1)], $it->sadd("s", "m"), [$it->smembers("s")]] });
 call("large value", sub { [$it->set("big", "x" x 5_000_000), length $it->get("big"), $it->del("big")] });
 call("keys", sub { [sort $it->keys("*")] });
-call("scan", sub { [sort @{ ($it->scan(0, "COUNT", 1000))[1] }] });
+call("scan", sub {
+    my ($cursor, @keys) = (0);
+    for (1 .. 100) {
+        ($cursor, my $some) = $it->scan($cursor, "COUNT", 1000);
+        push @keys, @$some;
+        last if $cursor eq "0";
+    }
+    [sort @keys];
+});
 call("pipeline", sub {
     my @found;
     for my $key ("p1", "p2", "p3") {
