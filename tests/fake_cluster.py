@@ -92,6 +92,10 @@ class Link(asyncio.Protocol):
             return
         if cuts:
             cuts[0] -= len(data)
+        if pause := self.node.cluster.pause:
+            for at in range(len(data)):
+                asyncio.get_running_loop().call_later(at * pause, self.transport.write, data[at : at + 1])
+            return
         self.transport.write(data)
 
 
@@ -161,6 +165,8 @@ class Cluster:
         self.moving = {}
         self.cuts = deque()
         self.silent = set()
+        # how long a node pauses before the next byte
+        self.pause = 0.0
         # how likely a reply is changed
         self.garbles = 0.0
         self.is_down = False

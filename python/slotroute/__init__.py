@@ -21,6 +21,7 @@ from itertools import pairwise
 from os import PathLike
 from typing import Any, Callable, Sequence
 
+from ._compiled import make_request
 from ._shared import library_path, processor_lacks
 
 # Codes of `Refused.answer`, kinds of `route`, policies and kinds of `redirect`, as in the header.
@@ -284,6 +285,8 @@ class Library:
 def request(*words: bytes | str | int | float) -> bytes:
     """The bytes of a request. A number is written as Python writes it. A word of another type is a
     `TypeError`, also `None`, `True` and `False`."""
+    if (made := make_request(words)) is not None:
+        return made
     fields: list[Any] = [len(words)]
     for it in words:
         data = it if type(it) is bytes else it.encode() if type(it) is str else _encoded(it)

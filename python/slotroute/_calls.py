@@ -3,12 +3,17 @@
 from __future__ import annotations
 
 import ctypes
+import select
+import time
 from ctypes import POINTER, byref, c_size_t, c_uint16, c_uint32, c_uint64, c_void_p
-from typing import Any, Callable, Iterator, NoReturn, Sequence
+from functools import partial
+from typing import Any, Callable, NoReturn
 
 from . import BYTES_IN, BYTES_OUT, DONE, NOT_THERE, Fields, Library, Refused, Told
+from ._compiled import Turn
 
 Call = Callable[..., int]
+Event = tuple[int, int]
 MOST_UNWRITTEN = 65536
 """How many bytes `Session.unwritten` gives at most."""
 
@@ -59,7 +64,7 @@ _RARE: tuple[tuple[str, list[Any]], ...] = (
     ("unreachable", [c_size_t]),
     ("give_up", [c_uint64]),
 )
-# The calls that a shell makes for each command, and what each returns.
+# The calls that a shell makes for each command, and what each returns, in the order of a `Turn`.
 _FREQUENT: tuple[tuple[str, Any], ...] = (
     ("advance", c_uint32),
     ("begin", c_uint32),
@@ -74,6 +79,10 @@ _FREQUENT: tuple[tuple[str, Any], ...] = (
     ("link_to_close", c_uint32),
     ("wanted_node", c_uint32),
 )
+# The methods of `Calls` that a `Turn` has, too.
+_OF_TURN = "begin_each", "next_reply", "poll", "set_socket", "wait", "wanted"
+# What a session may want.
+WRITE, CLOSE, CONNECT = range(3)
 
 
 def session_library(library: Library) -> ctypes.PyDLL:
@@ -99,7 +108,8 @@ class Calls:
     """The calls that a shell makes for each command, over an open session. One thread at a time
     makes them. Nothing checks what they are passed: requests are bytes, and C can have the numbers.
     To check it by `argtypes` takes ctypes longer than the call. After `close` each call is a
-    `ValueError`. The docstrings of `Session` say what the calls do.
+    `ValueError`. The docstrings of `Session` say what the calls do. If `_turn.c` is built, a `Turn`
+    makes the most frequent ones without ctypes.
     """
 
     _advance: Call
@@ -114,13 +124,20 @@ class Calls:
     _reply: Call
     _link_to_close: Call
     _wanted_node: Call
+    # As `poll`, after a wait without a lock of up to so many seconds. Only a `Turn` has it.
+    wait: Callable[[select.epoll, Any, float], list[Event] | None] | None = None
 
     def __init__(self, library: Library, lib: ctypes.PyDLL, session: Handle) -> None:
-        self._library, self._at = library, byref(session)
+        self.refused: Callable[[int], Refused] = partial(_refused, library)
+        self._at, addresses = byref(session), b""
         for name, gives in _FREQUENT:
             call = lib["slotroute_session_" + name]
             call.restype = gives
             setattr(self, "_" + name, call)
+            addresses += bytes(ctypes.cast(call, c_void_p))
+        if Turn is not None:
+            turn = Turn(session, ctypes.addressof(session), addresses, self.refused)
+            vars(self).update({name: getattr(turn, name) for name in _OF_TURN})
         # What calls are passed, and what they write to.
         self._size, self._number, self._due = c_size_t(), c_uint64(), DueReply()
         self._to_size, self._to_number, self._to_due = map(
@@ -131,19 +148,14 @@ class Calls:
 
     def close(self) -> None:
         """Has each call fail from now on."""
-        vars(self).update({"_" + name: _closed for name, _ in _FREQUENT})
-
-    def refused(self, answer: int) -> Refused:
-        """The error of a code."""
-        return Refused(answer, self._library.message(answer), Told())
+        vars(self).update(dict.fromkeys(["_" + name for name, _ in _FREQUENT], _closed))
+        vars(self).update(dict.fromkeys(_OF_TURN, _closed))
 
     def advance(self, now: int) -> int:
         self._number.value = now
         return self._advance(self._at, self._number)
 
-    def begin_each(
-        self, caller: int, requests: Sequence[bytes], deadline: int
-    ) -> list[int | Refused]:
+    def begin_each(self, caller: int, requests: list[bytes], deadline: int) -> list[int | Refused]:
         """The numbers of calls, one for each request. A refusal stands in the place of a number."""
         begin, at, size = self._begin, self._at, self._size
         number, to_number = self._number, self._to_number
@@ -180,19 +192,16 @@ class Calls:
         self._link.value = link
         return self._ended(self._at, self._link)
 
-    def replies(self) -> Iterator[tuple[int, int, bytes]]:
-        """The replies that are there: the caller, the number and the bytes of each."""
-        next_reply, at, size = self._next_reply, self._at, self._size
-        due, to_due = self._due, self._to_due
-        while (answer := next_reply(at, to_due)) == DONE:
-            buffer, count = self._buffer, due.bytes
-            if count > MOST_UNWRITTEN:
-                buffer = ctypes.create_string_buffer(count)
-            size.value = count
-            self._reply(at, buffer, size)
-            yield due.caller, due.call, buffer[:count]
-        if answer != NOT_THERE:
-            raise self.refused(answer)
+    def next_reply(self) -> tuple[int, int, bytes] | None:
+        """The next reply, if one is there: its caller, its number and its bytes."""
+        due, size, buffer = self._due, self._size, self._buffer
+        if (answer := self._next_reply(self._at, self._to_due)) != DONE:
+            return self._unnamed(answer)
+        size.value = due.bytes
+        if due.bytes > MOST_UNWRITTEN:
+            buffer = ctypes.create_string_buffer(due.bytes)
+        self._reply(self._at, buffer, size)
+        return due.caller, due.call, buffer[: due.bytes]
 
     def link_to_close(self) -> int | None:
         return self._named(self._link_to_close(self._at, self._to_size), self._size)
@@ -200,14 +209,51 @@ class Calls:
     def wanted_node(self) -> int | None:
         return self._named(self._wanted_node(self._at, self._to_size), self._size)
 
+    def wanted(self) -> tuple[int, int] | None:
+        """Tells the session the time. Returns what it wants next, or None: `WRITE` or `CLOSE` with the
+        number of a link, or `CONNECT` with that of a node. A `Turn` writes on the links whose sockets
+        it may use. It names one of them only if its socket does not take all."""
+        told = self.advance(clock())
+        if (link := self.link_to_write()) is not None:
+            return WRITE, link
+        if (link := self.link_to_close()) is not None:
+            return CLOSE, link
+        if (node := self.wanted_node()) is not None:
+            return CONNECT, node
+        if told != DONE:
+            raise self.refused(told)
+        return None
+
+    def set_socket(self, link: int, fd: int) -> None:
+        """Tells a `Turn` the socket of a link that it may use, or -1 if it may not."""
+
+    def poll(self, epoll: select.epoll) -> list[Event] | None:
+        """The events that are there, or None if there are none. A `Turn` reads the replies that came
+        on sockets that it may use, and leaves these events out."""
+        return epoll.poll(0) or None
+
     def _named(self, answer: int, number: Any) -> int | None:
         """The number that a call wrote, or None if it named none."""
-        if answer == NOT_THERE:
-            return None
         if answer != DONE:
-            raise self.refused(answer)
+            return self._unnamed(answer)
         named: int = number.value
         return named
+
+    def _unnamed(self, answer: int) -> None:
+        """What a call gives that named nothing: None, or the error of its answer."""
+        if answer != NOT_THERE:
+            raise self.refused(answer)
+        return None
+
+
+def clock() -> int:
+    """The time that a session is told, in milliseconds."""
+    return int(time.monotonic() * 1000)
+
+
+def _refused(library: Library, answer: int) -> Refused:
+    """The error of a code."""
+    return Refused(answer, library.message(answer), Told())
 
 
 def _closed(*_: Any) -> NoReturn:

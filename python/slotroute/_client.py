@@ -13,6 +13,7 @@ from typing import Any, Callable, Iterable, Sequence, TypeVar
 from urllib.parse import unquote, urlsplit
 
 from . import DONE, NO_MEMORY, Library, Refused, request
+from ._calls import CLOSE, WRITE, clock
 from .errors import ConnectionError, error_of
 from .session import FOREVER, MOST_UNWRITTEN, Session
 
@@ -63,13 +64,14 @@ def closed_error() -> Exception:
 class Waiter:
     """Waits for the replies to some requests of one caller."""
 
+    error: Exception | None = None
+    # How many replies did not come.
+    missing = 0
+
     def __init__(self, count: int) -> None:
         self.replies = [b""] * count
-        self.error: Exception | None = None
         # The numbers of its calls. A refusal stands in the place of one.
         self.calls: list[int | Refused] = []
-        # How many replies did not come.
-        self.missing = 0
 
     def finish(self) -> None:
         """Ends the waiting."""
@@ -143,8 +145,8 @@ class Client:
             most_reply_bytes=most_reply_bytes,
             most_calls=1_000_000,
             most_bytes=1 << 30,
-            silence=_milliseconds(silence),
-            pause=_milliseconds(pause),
+            silence=ceil(silence * 1000),
+            pause=ceil(pause * 1000),
             retries=retries,
             library=library,
         )
@@ -201,9 +203,9 @@ class Client:
         timeout = self.timeout if timeout is None else timeout
         if timeout is None or timeout > 1e9:
             return FOREVER
-        return max(0, _now() + _milliseconds(timeout))
+        return max(0, clock() + ceil(timeout * 1000))
 
-    def _begin(self, waiter: Waiter, requests: Sequence[bytes], caller: int, deadline: int) -> None:
+    def _begin(self, waiter: Waiter, requests: list[bytes], caller: int, deadline: int) -> None:
         """Begins the calls of requests. A refusal is a reply that is there at once."""
         waiters = self._waiters
         waiter.calls = self._calls.begin_each(caller, requests, deadline)
@@ -215,7 +217,6 @@ class Client:
                 waiter.missing += 1
         if not waiter.missing:
             waiter.finish()
-        self._advance()  # what is late already is not written
 
     def _begin_first(self, waiter: Waiter, deadline: int) -> None:
         """Begins the call whose reply shows that the session has the map of the slots."""
@@ -236,7 +237,7 @@ class Client:
 
     def _leave(self, waiter: Waiter) -> None:
         """Gives up the calls whose replies did not come. What comes later goes to nobody."""
-        for call in waiter.calls if waiter.missing else ():
+        for call in waiter.calls:
             if isinstance(call, int) and call in self._waiters:
                 del self._waiters[call]
                 if not self._is_closed:
@@ -247,7 +248,7 @@ class Client:
         """Gives the replies that are there to those who wait."""
         waiters = self._waiters
         try:
-            for _, call, data in self._calls.replies():
+            for _, call, data in iter(self._calls.next_reply, None):
                 if (found := waiters.pop(call, None)) is not None:
                     waiter, place = found
                     waiter.replies[place] = data
@@ -266,26 +267,31 @@ class Client:
     # The loop of a shell.
 
     def _turn(self) -> None:
-        """Tells the session the time, and does what it wants."""
+        """Tells the session the time, and does what it wants until it wants nothing more."""
         lacks_memory, self._lacks_memory = self._lacks_memory, False
-        self._advance()
         for link in list(self._links.values()) if lacks_memory else ():
             if link.is_behind:
                 self._take(link, 0)
-        self._do_wanted()
+        try:
+            while self._do_wanted():
+                pass
+        except Refused as refused:
+            self._note(refused.answer)
+        self._give_replies()
 
-    def _do_wanted(self) -> None:
-        """Does what the session wants until it wants nothing more. Writes come first, since nodes
-        work on what was written meanwhile."""
-        is_more = True
-        while is_more:
-            is_more = self._write_links()
-            self._give_replies()
-            is_more |= self._close_links()
-            is_more |= self._connect()
-
-    def _advance(self) -> None:
-        self._note(self._calls.advance(_now()))
+    def _do_wanted(self) -> bool:
+        """Does the next thing that the session wants. Returns whether there may be more."""
+        if (wanted := self._calls.wanted()) is None:
+            return bool(self._attempts or self._first_call is not None) and self._end_late()
+        what, number = wanted
+        if what == WRITE:
+            self._write(self._links[number])
+        elif what == CLOSE:
+            self._end(self._links[number])
+        else:
+            host, port = self._session.address(number)
+            self._resolve(host, port, partial(self._attempt, number))
+        return True
 
     def _note(self, answer: int) -> bool:
         """Whether a call of the session did its work. If memory ran out, the next turn is soon. Another
@@ -296,29 +302,9 @@ class Client:
             raise self._calls.refused(answer)
         return answer == DONE
 
-    def _close_links(self) -> bool:
-        """Closes the links that the session wants closed. Returns whether there were some."""
-        count = 0
-        while (number := self._calls.link_to_close()) is not None:
-            count += 1
-            self._end(self._links[number])
-        return count > 0
-
-    def _connect(self) -> bool:
-        """Begins the connections that the session wants, and ends those that take too long. Returns
-        whether there were some."""
-        count = 0
-        while (node := self._calls.wanted_node()) is not None:
-            count += 1
-            host, port = self._session.address(node)
-            self._resolve(host, port, partial(self._attempt, node))
-        if self._attempts or self._first_call is not None:
-            count += self._end_late()
-        return count > 0
-
-    def _end_late(self) -> int:
-        """Ends the connections that take too long, and returns how many. While there is no map, a
-        link without a first reply is one of these: another node may give the map."""
+    def _end_late(self) -> bool:
+        """Ends the connections that take too long. Returns whether there were some. While there is
+        no map, a link without a first reply is one of these: another node may give the map."""
         now = time.monotonic()
         attempts = [it for it in self._attempts if it.until <= now]
         links = [it for it in self._unmapped_links() if it.is_quiet(now)]
@@ -326,37 +312,27 @@ class Client:
             self._try_next(attempt)
         for link in links:
             self._end(link)
-        return len(attempts) + len(links)
+        return bool(attempts or links)
 
     def _unmapped_links(self) -> Iterable[Link]:
         """All links, while the client has no map."""
         return () if self._first_call is None else self._links.values()
 
-    def _write_links(self) -> bool:
-        """Writes on the links on which something was asked. Returns whether one of them ended."""
-        links, link_to_write = self._links, self._calls.link_to_write
-        if (number := link_to_write()) is None:
-            return False
-        count = len(links)
-        while number is not None:
-            self._write(links[number])
-            number = link_to_write()
-        # The silence of a link that owes a reply begins at the time that is told next.
-        self._advance()
-        return len(links) < count
+    def _longest_wait(self) -> float:
+        """In how many seconds the next turn is due, whatever the session waits for."""
+        if self._lacks_memory:
+            return self.SHORTEST_WAIT
+        if not self._attempts and self._first_call is None:
+            return self.LONGEST_WAIT
+        waits = [it.until for it in self._unmapped_links() if it.first == b""]
+        until = min([inf, *waits, *(it.until for it in self._attempts)])
+        return min(self.LONGEST_WAIT, max(0.0, until - time.monotonic()))
 
     def _wait_time(self) -> float:
         """In how many seconds the next turn is due, if nothing happens before."""
-        if self._lacks_memory:
-            return self.SHORTEST_WAIT
-        now = time.monotonic()
-        until = now + self.LONGEST_WAIT
-        if self._attempts or self._first_call is not None:
-            waits = [it.until for it in self._unmapped_links() if it.first == b""]
-            until = min([until, *waits, *(it.until for it in self._attempts)])
-        if (named := self._calls.next_time()) is not None:
-            until = min(until, named / 1000)
-        return max(0.0, until - now)
+        if (named := self._calls.next_time()) is None:
+            return self._longest_wait()
+        return min(self._longest_wait(), max(0.0, named / 1000 - time.monotonic()))
 
     # Connections.
 
@@ -413,6 +389,7 @@ class Client:
 
     def _end(self, link: Link) -> None:
         """Closes the connection of a link."""
+        self._calls.set_socket(link.number, -1)
         self._close_socket(link.sock)
         del self._links[link.number]
         self._note(self._calls.ended(link.number))
@@ -435,6 +412,7 @@ class Client:
         try:
             count = link.sock.recv_into(self._input)
         except (BlockingIOError, InterruptedError):
+            self._take(link, 0)  # for lack of memory a `Turn` may not have taken what it read
             return
         except OSError:
             count = 0
@@ -443,6 +421,7 @@ class Client:
             return
         if link.first is not None:
             self._note_first(link, link.first + self._input[: min(count, MOST_FIRST)])
+            self._set_socket(link)
         self._take(link, count)
 
     def _take(self, link: Link, count: int) -> None:
@@ -496,6 +475,12 @@ class Client:
             link.writes = writes
             write = partial(self._write, link) if writes else None
             self._watch(link.sock, partial(self._read, link), write)
+            self._set_socket(link)
+
+    def _set_socket(self, link: Link) -> None:
+        """Has a `Turn` use the socket of a link on which all is as usual."""
+        is_usual = link.first is None and not link.writes
+        self._calls.set_socket(link.number, link.sock.fileno() if is_usual else -1)
 
 
 class Commands:
@@ -552,11 +537,3 @@ def _is_connected(sock: socket.socket) -> bool:
         return code == 0 and sock.getpeername() != sock.getsockname()
     except OSError:
         return False
-
-
-def _now() -> int:
-    return int(time.monotonic() * 1000)
-
-
-def _milliseconds(seconds: float) -> int:
-    return ceil(seconds * 1000)

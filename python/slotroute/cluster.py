@@ -8,6 +8,7 @@ import threading
 from typing import Any, Callable, Iterable
 
 from . import request
+from ._calls import Event
 from ._client import Callback, Client, Commands, Waiter, Word, addresses_of, closed_error
 from .replies import Value, checked, value_of
 
@@ -20,14 +21,15 @@ LONGEST_SLEEP = 1.0
 class ThreadWaiter(Waiter):
     """Waits in a thread. It is woken when it is over, or if this thread is to drive."""
 
+    is_over = False
+    # Whether the thread waits without the client's lock.
+    is_idle = False
+
     def __init__(self, count: int) -> None:
+        super().__init__(count)
         # The thread sleeps while it is locked. What the handler of a signal raises leaves a bare
         # lock in order, but no Event.
         self._gate = threading.Lock()
-        self.is_over = False
-        # Whether the thread waits without the client's lock.
-        self.is_idle = False
-        super().__init__(count)
 
     def sleep(self) -> None:
         """Waits until it is woken, also before now, or for some time."""
@@ -134,7 +136,7 @@ class Cluster(Client):
                     self._begin_first(waiter, deadline)
                 else:
                     self._begin(waiter, requests, threading.get_ident(), deadline)
-                self._do_wanted()
+                self._turn()
                 if self._driver is not None:
                     self._wake()
                 while not waiter.is_over:
@@ -146,8 +148,10 @@ class Cluster(Client):
                 raise
             finally:
                 self._threads.discard(waiter)
-                self._leave(waiter)
-                self._pass_on()
+                if waiter.missing:
+                    self._leave(waiter)
+                if self._threads:
+                    self._pass_on()
         return waiter
 
     # One of the threads that wait drives.
@@ -160,9 +164,11 @@ class Cluster(Client):
             self._driver = waiter
             try:
                 while not waiter.is_over:
-                    self._take_events(self._unlocked(waiter, self._poll.poll, self._wait_time()))
+                    events = self._wait_for_events(waiter)
                     if self._is_closed:
                         break
+                    if events:
+                        self._take_events(events)
                     self._give_replies()
                     if not waiter.is_over or len(self._threads) > 1:
                         self._turn()
@@ -181,11 +187,22 @@ class Cluster(Client):
     def _take_waiting_events(self) -> None:
         """Takes what came while no thread waited, such as the end of a link."""
         for _ in range(16):
-            if not (events := self._poll.poll(0)):
+            if (events := self._calls.poll(self._poll)) is None:
                 return
             self._take_events(events)
 
-    def _take_events(self, events: list[tuple[int, int]]) -> None:
+    def _wait_for_events(self, waiter: ThreadWaiter) -> list[Event] | None:
+        """Waits without the lock. Returns the events that have to be taken."""
+        events: list[Event] | None
+        if (wait := self._calls.wait) is None:
+            events = self._unlocked(waiter, self._poll.poll, self._wait_time())
+        else:
+            waiter.is_idle = True
+            events = wait(self._poll, self._lock, self._longest_wait())
+            waiter.is_idle = False
+        return events
+
+    def _take_events(self, events: list[Event]) -> None:
         """Reads and writes the sockets that are ready. What one of them does may end another."""
         ready = [(fd, mask, self._watched.get(fd)) for fd, mask in events]
         for fd, mask, watched in ready:

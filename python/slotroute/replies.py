@@ -4,6 +4,7 @@ from __future__ import annotations
 
 from typing import TypeAlias
 
+from ._compiled import find_value
 from .errors import InvalidResponse, error_of
 
 Value: TypeAlias = "bytes | int | None | Exception | list[Value]"
@@ -13,6 +14,8 @@ BULK = ord("$")
 def value_of(reply: bytes) -> Value:
     """The value of one whole reply of RESP2: bytes, an int, None, or a list of values. An error is
     an exception, which is returned and not raised. What is no reply is an `InvalidResponse`."""
+    if (value := find_value(reply)) is not NotImplemented:
+        return value
     try:
         if reply[0] == BULK:  # most replies, so they are read at once
             end = reply.index(b"\r\n")

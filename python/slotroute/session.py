@@ -210,7 +210,7 @@ class Session:
         """The next reply, or None if there is none. A caller's replies come in the order of its
         calls. `NO_MEMORY`: the same reply comes next."""
         with self._lock:
-            reply = next(self.calls.replies(), None)
+            reply = self.calls.next_reply()
         return reply and Reply(*reply)
 
     def _call(self, call: Any, *words: Any) -> int:
