@@ -10,6 +10,7 @@ from common import (
     PYTHON,
     ROOT,
     TARGET,
+    Unfit,
     copy_tracked,
     epoch,
     note,
@@ -77,6 +78,8 @@ def make_wheel(prefix, room, out):
         folder,
         env={**os.environ, "SLOTROUTE_PREFIX": str(prefix)},
     )
+    if not (out / f"slotroute-{version()}-cp310-abi3-manylinux_2_17_x86_64.whl").exists():
+        raise Unfit("the wheel has no module _turn: gcc and Python's headers have to be there")
 
 
 def make_crate(prefix, room, out):
