@@ -49,7 +49,9 @@ impl ReadCommands<'_> {
 }
 
 /// The rule of a command's name, by the tables, and by a registry if there is one. A name takes
-/// memory only where it is longer than each name of the tables.
+/// memory only where it is longer than each name of the tables. It is inlined, so that the rule is
+/// made in place.
+#[inline(always)]
 pub(super) fn rule_for<R: Routable>(
     alloc: Global,
     command: &R,
