@@ -20,9 +20,9 @@ use Rattle.redis_routing.specs.declared.policy.ResponsePolicy.{ResponsePolicy}
 use Rattle.redis_cluster.specs.Plan.{Plan, IsRoutedPlan}
 use Rattle.redis_cluster.proofs.Told.{Told}
 use Rattle.redis_commands.specs.Planned.{PlannedCommand, IsPlanned}
-use Rattle.redis_commands.specs.Rule.{of_parts, rule_of}
+use Rattle.redis_commands.specs.Rule.{ReplyRule, of_parts, rule_of, sent_by}
 use Rattle.redis_commands.specs.Targets.{AreTargets, IsCommandPlanFault, is_slotless}
-use Rattle.redis_commands.specs.Way.{IsFaultTo, IsPlanTo}
+use Rattle.redis_commands.specs.Way.{IsFaultTo, IsPlanTo, whole_plan}
 use Rattle.redis_commands.specs.declared.fault.CommandPlanFault.{CommandPlanFault}
 use Rattle.redis_commands.specs.declared.fault.CommandPlanFault.TheVariants as own
 
@@ -62,6 +62,29 @@ module _ (plan : Plan) (whole : IsRoutedPlan plan) (some : 0 < length plan.split
         some = planned_parts.some;
         untold = untold ∙ sym (splat_is_map split.routes (length split.routes) none refl) ∙ splat_is_map plan.nodes (length split.routes) none whole.nodes;
       }
+
+-- the plan of a command that goes whole to each of some targets has room for the answer of each
+pub whole_planned : (plan : PlannedCommand) (args : Arguments) (rule : ReplyRule) (targets : List Address) → plan ≡ whole_plan args rule targets → 0 < length plan.targets → IsPlanned plan
+whole_planned plan args rule targets is some =
+    let none : Told = None in
+    subst IsPlanned (sym is) (record {
+      some = subst (λ (p : PlannedCommand). 0 < length p.targets) is some;
+      sent = length-map targets (λ target. args);
+      answers = length-map targets (λ target. none);
+    })
+
+-- and goes there, if these are the nodes
+pub whole_to : {S : Type 0} (strategy : Option S) (picks_of : S → Candidates → Address → Type 0) (entries : List (RangeEntry SlotNodes)) (pick : ℕ) (args : Arguments) (plan : PlannedCommand) (to : Routing) (rule : ReplyRule) (targets : List Address)
+    → plan ≡ whole_plan args rule targets → 0 < length plan.targets → AreTargets strategy picks_of entries pick to targets → rule ≡ rule_of args to → map (λ target. args) targets ≡ sent_by args rule targets
+    → IsPlanTo strategy picks_of entries pick args to plan
+whole_to strategy picks_of entries pick args plan to rule targets is some each by sent =
+    subst (IsPlanTo strategy picks_of entries pick args to) (sym is) (record {
+      targets = each;
+      rule = by;
+      sent = sent;
+      some = subst (λ (p : PlannedCommand). 0 < length p.targets) is some;
+      untold = refl;
+    })
 
 -- why a command that is routed there has no plan
 pub fault_to : (entries : List (RangeEntry SlotNodes)) (names : Names) (args : Arguments) (to : Routing) → routing names args ≡ Some to → (fault : CommandPlanFault) → IsFaultTo entries to fault → IsCommandPlanFault entries names args fault

@@ -10,8 +10,7 @@ use Rattle.redis_commands.proofs.Nodes.{same_for_each}
 use Rattle.redis_commands.proofs.ways.to_each.Goals as goal
 
 pub returns-clause-plan : goal.returns-clause-plan
-returns-clause-plan g c =
-    let args = g.R.Routable.args c.args.command.now in
+returns-clause-plan g c args =
     let nodes = c.args.nodes.items in
     let made : List Arguments → List Told → PlannedCommand = λ sent told. record { rule = by_policy c.args.policy; targets = addresses_behind nodes; sent = sent; answers = told } in
     let none : Told = None in
