@@ -10,7 +10,7 @@ use Rattle.std.proofs.lemmas.Bool.Decides.{nat_tests}
 use Rattle.resp_core.proofs.Cases.{by_test, and_first, and_second}
 use Rattle.session_core.specs.Channel.{Channel}
 use Rattle.session_core.specs.Part.{PartState, Phase, is_done}
-use Rattle.session_core.specs.State.{CallState, State, Event, Open, On, Forget, Begin, GiveUp, End, Finish, Leave, Trim, begun, call_at, numbered, call_after, left_call, unwants, phase_after, May, after, IsTurn}
+use Rattle.session_core.specs.State.{CallState, State, Event, Begin, Leave, Trim, begun, call_at, numbered, call_after, left_call, unwants, phase_after, May, after, IsTurn}
 use Rattle.session_core.proofs.PlaceLists.{get_before, at_index, get_first_dropped}
 
 -- ---- lists

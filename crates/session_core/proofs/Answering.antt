@@ -12,7 +12,7 @@ use Rattle.session_core.specs.Channel.{Ask}
 use Rattle.session_core.specs.LinkEvents as link
 use Rattle.session_core.specs.Part.{PartState, Phase, Waits, Answered, Lost, Unsent, is_waiting, is_refusal, phase_asked, phase_told, phase_lost, phase_ended}
 use Rattle.session_core.specs.Part as part
-use Rattle.session_core.specs.State.{State, Event, Open, On, Forget, Begin, GiveUp, End, Finish, Leave, Trim, start, begun, call_at, part_at, is_part, asks, phase_after, May, after, Run}
+use Rattle.session_core.specs.State.{State, Event, On, Begin, GiveUp, End, start, begun, call_at, part_at, is_part, asks, phase_after, May, after, Run}
 use Rattle.session_core.specs.History.{CallPart, Began, Step, Asked, step_of, steps, WasTaken, WasAsked}
 use Rattle.session_core.proofs.Runs.{always}
 use Rattle.session_core.proofs.AfterEvents.{nothing_in, only_one, in_phase, all_at, seen, call_came, begins}

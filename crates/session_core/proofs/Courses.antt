@@ -6,7 +6,7 @@ use Rattle.std.proofs.lemmas.List.{append-nil}
 use Rattle.std.proofs.lemmas.List.Elements.{filter_map-append, Contains-push_cases}
 use Rattle.session_core.specs.LinkEvents as link
 use Rattle.session_core.specs.Part.{PartState, Phase, Waits, is_waiting, is_done}
-use Rattle.session_core.specs.State.{CallState, State, Event, Open, On, Forget, Begin, GiveUp, End, Finish, Leave, Trim, start, begun, call_at, part_at, phase_after, left_call, May, Has, IsTurn, after, Run}
+use Rattle.session_core.specs.State.{CallState, State, Event, On, Begin, start, begun, call_at, part_at, phase_after, left_call, May, Has, IsTurn, after, Run}
 use Rattle.session_core.specs.History.{CallPart, Began, Step, step_of, steps, AreTries}
 use Rattle.session_core.proofs.Runs.{always}
 use Rattle.session_core.proofs.AfterEvents.{nothing_in, in_phase, all_at, seen, not_begun, begun_after, same_call, call_goes, call_came, begins}

@@ -8,7 +8,7 @@ use Rattle.session_core.specs.declared.part.Cause.TheVariants.{GivenUp}
 use Rattle.session_core.specs.LinkEvents as link
 use Rattle.session_core.specs.Part.{PartState, Phase, Waits, Answered, Lost, Unsent, is_waiting, is_on, is_refusal, phase_told, phase_lost, phase_ended}
 use Rattle.session_core.specs.Part as part
-use Rattle.session_core.specs.State.{State, Event, Open, On, Forget, Begin, GiveUp, End, Finish, Leave, Trim, part_at, is_part, asks, phase_after, May}
+use Rattle.session_core.specs.State.{State, Event, On, GiveUp, End, part_at, is_part, asks, phase_after, May}
 use Rattle.session_core.specs.History.{CallPart, Step, Asked, Refused, Unwritten, Settled, step_of, is_ask, is_unwritten, may_follow, may_all_follow, is_there}
 use Rattle.session_core.proofs.Runs.{last_more}
 use Rattle.session_core.proofs.AfterEvents.{in_phase}

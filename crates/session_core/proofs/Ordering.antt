@@ -9,7 +9,7 @@ use Rattle.session_core.specs.LinkEvents as link
 use Rattle.session_core.specs.Channel.{Ask}
 use Rattle.session_core.specs.Part.{PartState, Phase, Waits, Answered, Lost, Unsent, is_waiting, is_done, is_on, is_refusal, have_slot, have_order}
 use Rattle.session_core.specs.Part as part
-use Rattle.session_core.specs.State.{CallState, State, Event, Open, On, Forget, Begin, GiveUp, End, Finish, Leave, Trim, start, is_part, asks, lets_by, MayAsk, Has, May, after, Run}
+use Rattle.session_core.specs.State.{CallState, State, Event, On, Begin, start, is_part, asks, lets_by, MayAsk, Has, May, after, Run}
 use Rattle.session_core.specs.History.{CallPart, Began, Step, Asked, Refused, Unwritten, Settled, step_of, steps, is_ask, may_follow, may_all_follow, has_effect, takes_effect, times_asked, InOrder}
 use Rattle.session_core.proofs.Runs.{always, run_more, last_more}
 use Rattle.session_core.proofs.AfterEvents.{in_phase, same_call}

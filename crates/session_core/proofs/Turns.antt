@@ -7,7 +7,7 @@ use Rattle.resp_core.proofs.Cases.{by_test, and_first, and_second}
 use Rattle.session_core.specs.Channel.{Ask}
 use Rattle.session_core.specs.LinkEvents as link
 use Rattle.session_core.specs.Part.{PartState}
-use Rattle.session_core.specs.State.{CallState, State, Event, Open, On, Forget, Begin, GiveUp, End, Finish, Leave, Trim, start, begun, call_at, asks, unwants, May, MayFinish, Happens, after, Run}
+use Rattle.session_core.specs.State.{CallState, State, Event, On, Begin, GiveUp, Finish, start, begun, call_at, asks, unwants, May, MayFinish, Happens, after, Run}
 use Rattle.session_core.specs.History.{HasEnded}
 use Rattle.session_core.proofs.Runs.{always, split_run}
 use Rattle.session_core.proofs.AfterEvents.{nothing_in, has_begun, begun_after, call_goes, call_came, begins}
