@@ -1,9 +1,9 @@
 -- Ascending lists of places.
-use Rattle.std.proofs.Common.{inl, inr, true, false, Bool, ◌≡◌, ◌≢◌, ◌<◌, ◌≤◌, ◌+◌, ◌-◌, ◌++◌, ◌==◌, ◌⊎◌, ℕ, zero, suc, ltb, List, [], ◌∷◌, length, get_or, refl, sym, ap, ◌∙◌, subst, arith}
+use Rattle.std.proofs.Common.{inl, inr, true, false, Bool, ◌≡◌, ◌≢◌, ◌<◌, ◌≤◌, ◌+◌, ◌-◌, ◌++◌, ◌==◌, ◌⊎◌, ℕ, zero, suc, ltb, List, [], ◌∷◌, length, drop, get_or, refl, sym, ap, ◌∙◌, subst, arith}
 use Rattle.std.specs.List.{insert, remove}
 use Rattle.std.proofs.lemmas.Option.{slice_get_read, get_or_from_slice_get}
 use Rattle.std.proofs.lemmas.Bool.Decides.{nat_tests}
-use Rattle.session_core.specs.Inner.Lane.{In, Ascends, without, with_place}
+use Rattle.session_core.specs.Inner.Lane.{In, Ascends, IsFirst, without, with_place}
 
 pub same_place : (x p : ℕ) → ((x ≡ p) × ((x == p) ≡ true)) ⊎ ((x ≢ p) × ((x == p) ≡ false))
 same_place x p = by (x == p) refl
@@ -28,6 +28,20 @@ pushed_in q p [] h = h
 pushed_in q p (x ∷ xs) h = elim h [
   | inl e ↦ inr (pushed_in q p xs (inl e))
   | inr i ↦ elim i [ inl e ↦ inl e | inr r ↦ inr (pushed_in q p xs (inr r)) ]
+]
+
+pub in_appended : (q : ℕ) (xs ys : List ℕ) → In q (xs ++ ys) → In q xs ⊎ In q ys
+in_appended q [] ys h = inr h
+in_appended q (x ∷ xs) ys h = elim h [
+  | inl e ↦ inl (inl e)
+  | inr r ↦ elim (in_appended q xs ys r) [ inl i ↦ inl (inr i) | inr i ↦ inr i ]
+]
+
+pub appended_in : (q : ℕ) (xs ys : List ℕ) → In q xs ⊎ In q ys → In q (xs ++ ys)
+appended_in q [] ys h = elim h [ inl i ↦ absurd i | inr i ↦ i ]
+appended_in q (x ∷ xs) ys h = elim h [
+  | inl i ↦ elim i [ inl e ↦ inl e | inr r ↦ inr (appended_in q xs ys (inl r)) ]
+  | inr i ↦ inr (appended_in q xs ys (inr i))
 ]
 
 pub in_without : (q p : ℕ) (xs : List ℕ) → In q (without p xs) → (q ≢ p) × In q xs
@@ -102,6 +116,46 @@ ascends_put p (x ∷ xs) a absent = elim (below x p) [
       let lt : p < x = omega (arith, ge.0, apart) in
       rw ge.1 ((λ q h. elim h [ inl e ↦ subst (λ (n : ℕ). p < n) e lt | inr i ↦ let more = a.0 q i in omega (arith, lt, more) ]), a)
 ]
+
+pub ascends_split : (xs ys : List ℕ) → Ascends (xs ++ ys) → Ascends xs × Ascends ys × ((p q : ℕ) → In p xs → In q ys → p < q)
+ascends_split [] ys a = (tt, a, λ p q i. absurd i)
+ascends_split (x ∷ xs) ys a =
+    let s = ascends_split xs ys a.1 in (
+      ((λ q h. a.0 q (appended_in q xs ys (inl h))), s.0),
+      s.1,
+      λ p q i j. elim i [
+        | inl e ↦ subst (λ (n : ℕ). n < q) e (a.0 q (appended_in q xs ys (inr j)))
+        | inr r ↦ s.2 p q r j
+      ],
+    )
+
+-- ---- two lists, one after the other
+
+pub without_appended : (p : ℕ) (xs ys : List ℕ) → without p (xs ++ ys) ≡ without p xs ++ without p ys
+without_appended p [] ys = refl
+without_appended p (x ∷ xs) ys = let rest = without_appended p xs ys in elim (same_place x p) [
+  | inl e ↦ rw e.1 rest
+  | inr ne ↦ rw ne.1 (ap (λ (zs : List ℕ). x ∷ zs) rest)
+]
+
+pub put_appended : (p : ℕ) (xs ys : List ℕ) → ((q : ℕ) → In q ys → p < q) → with_place p (xs ++ ys) ≡ with_place p xs ++ ys
+put_appended p [] [] low = refl
+put_appended p [] (y ∷ ys) low = elim (below y p) [
+  | inl lt ↦ let less = low y (inl refl) in absurd (omega (arith, lt.0, less))
+  | inr ge ↦ rw ge.1 refl
+]
+put_appended p (x ∷ xs) ys low = let rest = put_appended p xs ys low in elim (below x p) [
+  | inl lt ↦ rw lt.1 (ap (λ (zs : List ℕ). x ∷ zs) rest)
+  | inr ge ↦ rw ge.1 refl
+]
+
+pub first_dropped : (xs ys : List ℕ) → 0 < length xs → drop 1 (xs ++ ys) ≡ drop 1 xs ++ ys
+first_dropped [] ys some = absurd (omega arith)
+first_dropped (x ∷ xs) ys some = refl
+
+pub second_dropped : (xs ys : List ℕ) → length xs ≡ 0 → drop 1 (xs ++ ys) ≡ xs ++ drop 1 ys
+second_dropped [] ys none = refl
+second_dropped (x ∷ xs) ys none = absurd (omega arith)
 
 pub length-put : (p : ℕ) (xs : List ℕ) → length (with_place p xs) ≡ length xs + 1
 length-put p [] = refl
@@ -204,3 +258,37 @@ inserted p (suc i) (x ∷ xs) h low high = elim (below x p) [
   | inl lt ↦ rw lt.1 (ap (λ (ys : List ℕ). x ∷ ys) (inserted p i xs (omega arith) (λ k le. low (suc k) (omega arith)) (λ k le in_. high (suc k) (omega arith) (omega arith))))
   | inr ge ↦ let less : x < p = low 0 (omega arith) in absurd (omega (arith, ge.0, less))
 ]
+
+-- ---- the first place
+
+first_of : (x : ℕ) (xs : List ℕ) → Ascends (x ∷ xs) → IsFirst x (x ∷ xs)
+first_of x xs a = (inl refl, λ q h. elim h [ inl e ↦ omega (arith, e) | inr i ↦ let lt = a.0 q i in omega (arith, lt) ])
+
+-- of two lists, one after the other
+pub first_read : (xs ys : List ℕ) (x : ℕ) → Ascends (xs ++ ys) → 0 < length xs → x ≡ get_or xs 0 x → IsFirst x (xs ++ ys)
+first_read [] ys x a some e = absurd (omega arith)
+first_read (y ∷ xs) ys x a some e = subst (λ (n : ℕ). IsFirst n ((y ∷ xs) ++ ys)) (sym e) (first_of y (xs ++ ys) a)
+
+pub second_read : (xs ys : List ℕ) (x : ℕ) → Ascends (xs ++ ys) → length xs ≡ 0 → 0 < length ys → x ≡ get_or ys 0 x → IsFirst x (xs ++ ys)
+second_read [] [] x a none some e = absurd (omega arith)
+second_read [] (y ∷ ys) x a none some e = subst (λ (n : ℕ). IsFirst n (y ∷ ys)) (sym e) (first_of y ys a)
+second_read (z ∷ xs) ys x a none some e = absurd (omega arith)
+
+pub without_first : (p : ℕ) (xs : List ℕ) → Ascends xs → IsFirst p xs → without p xs ≡ drop 1 xs
+without_first p [] a first = refl
+without_first p (x ∷ xs) a first =
+    let le = first.1 x (inl refl) in
+    elim (same_place x p) [
+      | inl same ↦ rw same.1 (absent_same p xs (λ i. let lt = a.0 p i in omega (arith, lt, le)))
+      | inr ne ↦ elim first.0 [
+        | inl e ↦ absurd (ne.0 e)
+        | inr i ↦ let lt = a.0 p i in absurd (omega (arith, lt, le))
+      ]
+    ]
+
+pub head_read : (xs : List ℕ) (x : ℕ) → 0 < length xs → x ≡ get_or xs 0 x → xs ≡ x ∷ drop 1 xs
+head_read [] x some e = absurd (omega arith)
+head_read (y ∷ xs) x some e = ap (λ n. n ∷ xs) (sym e)
+
+pub without_head : (p : ℕ) (xs : List ℕ) → Ascends xs → xs ≡ p ∷ drop 1 xs → without p xs ≡ drop 1 xs
+without_head p xs a e = without_first p xs a (subst (IsFirst p) (sym e) (first_of p (drop 1 xs) (subst Ascends e a)))

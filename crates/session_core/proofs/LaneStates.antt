@@ -52,6 +52,7 @@ last_still first next place status old new lane l d later not at end le =
 abbrev pub MayMove : (ℕ → Option Status) → ℕ → Status → Type 0
 MayMove old place Waits = (link : ℕ) × (old place ≡ Some (Asked link))
 MayMove old place (Asked link) = (old place ≡ Some Waits) × ((q other : ℕ) → old q ≡ Some (Asked other) → (other ≡ link) × (q < place))
+    × ((q : ℕ) → old q ≡ Some Waits → place ≤ q)
 MayMove old place Settled = (link : ℕ) × (old place ≡ Some (Asked link))
 MayMove old place Unsent = old place ≡ Some Waits
 
@@ -60,7 +61,7 @@ not_two a b o p q ne = let e : Some a ≡ Some b = sym p ∙ q in ne cc
 
 pub may_become : (first place : ℕ) (status : Status) (old : ℕ → Option Status) (lane : Lane) → IsLaneOf first old lane → MayMove old place status → place + 1 < 2 ^ 64 → MayBecome place status lane
 may_become first place Waits old lane l may fits = (l.asked_there place may.0 may.1, λ h. not_two Waits (Asked may.0) (old place) (l.waiting_in place h) may.1 (λ e. cc))
-may_become first place (Asked link) old lane l may fits = (l.waiting_there place may.0, λ q h. (may.1 q lane.link (l.asked_in q h)).1)
+may_become first place (Asked link) old lane l may fits = ((l.waiting_there place may.0, λ q h. may.2 q (l.waiting_in q h)), λ q h. (may.1 q lane.link (l.asked_in q h)).1)
 may_become first place Settled old lane l may fits = (l.asked_there place may.0 may.1, fits)
 may_become first place Unsent old lane l may fits = l.waiting_there place may
 

@@ -17,6 +17,7 @@ mod Examples
 pub mod PlaceLists
 pub mod Places
 pub mod Ascending
+pub mod LaneLists
 pub mod LaneStates
 pub mod LaneMaps
 pub mod OrderTies

@@ -1,5 +1,5 @@
 -- The order of a caller, the lanes of its slots and its bars stay tied, whatever step they take together.
-use Rattle.std.proofs.Common.{inl, inr, true, false, Bool, ◌≡◌, ◌≢◌, ◌<◌, ◌≤◌, ◌+◌, ◌-◌, ◌^◌, ◌⊎◌, ℕ, List, [], ◌∷◌, length, length-append, length-drop, take, drop, Option, None, Some, refl, sym, ap, ◌∙◌, subst, arith}
+use Rattle.std.proofs.Common.{inl, inr, true, false, Bool, ◌≡◌, ◌≢◌, ◌<◌, ◌≤◌, ◌+◌, ◌-◌, ◌^◌, ◌⊎◌, ℕ, List, [], ◌∷◌, length, length-append, length-drop, drop, Option, None, Some, refl, sym, ap, ◌∙◌, subst, arith}
 use Rattle.std.specs.BTreeMap.{BTreeMap}
 use Rattle.std.proofs.lemmas.List.{length-take}
 use Rattle.std.proofs.lemmas.Option.{same_Some}
@@ -185,12 +185,26 @@ others_ahead order place link slot q other s m is e =
       ]
     ]
 
+-- none that waits is before it
+none_before : (order : Order) (place link slot q : ℕ) → IsSorted order → (m : MayAskAmong have_slot place link order) → m.it.order ≡ OfSlot slot → statuses slot order q ≡ Some Waits → place ≤ q
+none_before order place link slot q s m is e =
+    let p = status_part slot q order Waits e in
+    elim (cases_lt q place) [
+      | inl lt ↦
+          let same = both_of_slot p.0.order m.it.order slot p.2 is in
+          elim (m.earlier q p.0 p.1 (s.slots q place p.0 m.it lt p.1 m.there same) same) [
+            | inl done ↦ absurd (undone_twice p.0.status done (ap is_done p.3))
+            | inr on ↦ let z : Waits ≡ Asked link = sym p.3 ∙ on.1 in absurd (cc)
+          ]
+      | inr ge ↦ ge
+    ]
+
 moves : (order : Order) (place slot : ℕ) (s : Status) (p : OrderedPart) → IsSorted order → ordered_at place order ≡ Some p → p.order ≡ OfSlot slot → MayChange place s order → MayMove (statuses slot order) place s
 moves order place slot Waits p sorted e is may = (may.1, part_status slot place order p e is ∙ ap (λ (x : OrderedPart). Some x.status) (same_Some p may.0 (sym e ∙ may.2)) ∙ ap (λ s. Some s) may.3)
 moves order place slot (Asked link) p sorted e is may =
     let same = same_Some p may.it (sym e ∙ may.there) in
     let of : may.it.order ≡ OfSlot slot = ap (λ (x : OrderedPart). x.order) (sym same) ∙ is in
-    (part_status slot place order may.it may.there of ∙ ap (λ s. Some s) may.waits, λ q other a. others_ahead order place link slot q other sorted may of a)
+    (part_status slot place order may.it may.there of ∙ ap (λ s. Some s) may.waits, λ q other a. others_ahead order place link slot q other sorted may of a, λ q w. none_before order place link slot q sorted may of w)
 moves order place slot Settled p sorted e is may = (may.1, part_status slot place order p e is ∙ ap (λ (x : OrderedPart). Some x.status) (same_Some p may.0 (sym e ∙ may.2)) ∙ ap (λ s. Some s) may.3)
 moves order place slot Unsent p sorted e is may = part_status slot place order p e is ∙ ap (λ (x : OrderedPart). Some x.status) (same_Some p may.0 (sym e ∙ may.1)) ∙ ap (λ s. Some s) may.2
 
@@ -320,9 +334,10 @@ tied_same order lanes changed bars t same = record {
 
 -- ---- a part joins
 
-pub waits_below : (order : Order) (lanes : BTreeMap ℕ lane.Lane) (bars : List ℕ) (slot q : ℕ) → IsTied order lanes bars → In q (lane_of slot lanes).waiting → q < order.first + length order.parts
-waits_below order lanes bars slot q t h =
-    let p = status_part slot q order Waits ((t.lane slot).waiting_in q h) in
+pub joins_last : (order : Order) (lanes : BTreeMap ℕ lane.Lane) (bars : List ℕ) (slot : ℕ) → IsTied order lanes bars → lane.MayJoin (order.first + length order.parts) (lane_of slot lanes)
+joins_last order lanes bars slot t q h =
+    let there : (s : Status) × (statuses slot order q ≡ Some s) = elim h [ inl w ↦ (Waits, (t.lane slot).waiting_in q w) | inr a ↦ (Asked (lane_of slot lanes).link, (t.lane slot).asked_in q a) ] in
+    let p = status_part slot q order there.0 there.1 in
     (at_within q order.first order.parts p.0 p.1).1
 
 pub tied_pushed : (order : Order) (lanes changed : BTreeMap ℕ lane.Lane) (bars : List ℕ) (seat : Seat) (of : PartOrder) → IsTied order lanes bars → MayFollow seat.call of order

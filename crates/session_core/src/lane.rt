@@ -6,11 +6,12 @@
 
 ghost use Rattle.std.specs.Prelude.{◌≡◌, ◌+◌, ◌<◌, ◌≤◌, true, ℕ, OnOk, OnErr, IfSome, IfNone};
 ghost use Rattle.session_core.specs.declared.ordered_part.Status.{Status};
-ghost use Rattle.session_core.specs.Inner.Lane.{In, no_lane, joined, with_status, MayBecome, IsNext, IsLinkOf};
+ghost use Rattle.session_core.specs.declared.ordered_part.Status.TheVariants.{Waits, Asked};
+ghost use Rattle.session_core.specs.Inner.Lane.{In, no_lane, joined, with_status, MayJoin, MayBecome, IsFirst, IsNext, IsLinkOf};
 ghost use Rattle.session_core.specs.Inner.Tied.{IsEmpty};
 
 use crate::ordered_part::Status;
-use crate::sorted_places::{put_place, take_place};
+use crate::sorted_places::{move_before, put_place, take_first, take_place};
 use std::alloc::{AllocError, Global};
 use std::collections::VecDeque;
 use std::marker::Model;
@@ -31,7 +32,11 @@ pub(crate) struct LaneAskable {
 /// way on the same link, and no later part is on its way or settled.
 #[derive(Drop)]
 pub(crate) struct Lane {
-    waiting: VecDeque<u64>,
+    /// Parts that wait again: each was refused while another was on its way. When none is on its way, they move
+    /// to `later`. So a part that is refused moves no other part of `later`.
+    refused: VecDeque<u64>,
+    /// The other parts that wait. They come after those of `refused`, and after those on their way.
+    later: VecDeque<u64>,
     /// The parts on their way.
     asked: VecDeque<u64>,
     /// The place after the last settled part, or 0.
@@ -41,17 +46,18 @@ pub(crate) struct Lane {
 }
 
 impl Model for Lane {
-    ghost use Rattle.std.specs.Prelude.{◌+◌, ◌≤◌, length};
+    ghost use Rattle.std.specs.Prelude.{◌+◌, ◌≤◌, ◌++◌, length};
     ghost use Rattle.std.specs.VecDeque.{deque_capacity};
     ghost use Rattle.session_core.specs.Inner.Lane as lane;
 
     ghost Value = { lane.Lane };
 
-    ghost view = { λ s. record { waiting = s.waiting.items; asked = s.asked.items; settled_end = s.settled_end; link = s.link } };
+    ghost view = { λ s. record { waiting = s.refused.items ++ s.later.items; asked = s.asked.items; settled_end = s.settled_end; link = s.link } };
 
-    ghost invariant = { λ s. lane.Ascends s.waiting.items × lane.Ascends s.asked.items
-        × (length s.waiting.items + length s.asked.items ≤ deque_capacity s.waiting)
-        × (length s.waiting.items + length s.asked.items ≤ deque_capacity s.asked) };
+    ghost invariant = { λ s. lane.AreInOrder s.refused.items s.later.items s.asked.items
+        × (length s.refused.items + length s.later.items + length s.asked.items ≤ deque_capacity s.refused + 1)
+        × (length s.refused.items + length s.later.items + length s.asked.items ≤ deque_capacity s.later)
+        × (length s.refused.items + length s.later.items + length s.asked.items ≤ deque_capacity s.asked) };
 }
 
 impl Lane {
@@ -60,7 +66,8 @@ impl Lane {
         ensures { result ≡ no_lane }
     {
         Lane {
-            waiting: VecDeque::new(alloc),
+            refused: VecDeque::new(alloc),
+            later: VecDeque::new(alloc),
             asked: VecDeque::new(alloc),
             settled_end: 0,
             link: 0,
@@ -71,7 +78,7 @@ impl Lane {
     pub(crate) fn is_empty(&self) -> bool
         ensures { result ≡ true → IsEmpty self.now }
     {
-        self.waiting.is_empty() && self.asked.is_empty()
+        self.asked.is_empty() && self.later.is_empty() && self.refused.is_empty()
     }
 
     /// Adds a part at the end, which waits. It may be asked and refused without more memory.
@@ -80,13 +87,15 @@ impl Lane {
     ///
     /// If memory runs out. Nothing changes then.
     pub(crate) fn join(&mut self, place: u64) -> Result<(), AllocError>
-        requires { (q : ℕ) → In q self.old.waiting → q < place }
+        requires { MayJoin place self.old }
         ensures joined { OnOk result (self.new ≡ joined place self.old) }
         ensures err { OnErr result (self.new ≡ self.old) }
     {
-        self.waiting.reserve(self.asked.len() + 1)?;
-        self.asked.reserve(self.waiting.len() + 1)?;
-        self.waiting.push_back_reserved(place);
+        let (refused, later, asked) = (self.refused.len(), self.later.len(), self.asked.len());
+        self.refused.reserve(later + asked)?;
+        self.later.reserve(refused + asked + 1)?;
+        self.asked.reserve(refused + later + 1)?;
+        self.later.push_back_reserved(place);
         Ok(())
     }
 
@@ -99,7 +108,7 @@ impl Lane {
         ensures link { IfSome result (λ next. IsLinkOf next.link self.now) }
         ensures none { IfNone result ((place : ℕ) → IsNext place self.now → ⊥) }
     {
-        let place = *self.waiting.front()?;
+        let place = self.first_waiting()?;
         if place < self.settled_end {
             return None;
         }
@@ -118,7 +127,7 @@ impl Lane {
         ensures overtaken { IfSome result (λ place. In place self.now.waiting × (place < self.now.settled_end)) }
         ensures none { IfNone result ((place : ℕ) → In place self.now.waiting → self.now.settled_end ≤ place) }
     {
-        let place = *self.waiting.front()?;
+        let place = self.first_waiting()?;
         if self.settled_end <= place {
             return None;
         }
@@ -131,20 +140,51 @@ impl Lane {
         ensures { self.new ≡ with_status place status self.old }
     {
         match status {
-            Status::Waits => {
-                take_place(&mut self.asked, place);
-                put_place(&mut self.waiting, place);
-            }
-            Status::Asked(link) => {
-                take_place(&mut self.waiting, place);
-                self.asked.push_back_reserved(place);
-                self.link = link;
-            }
+            Status::Waits => self.put_back(place),
+            Status::Asked(link) => self.note_asked(place, link),
             Status::Settled => {
                 take_place(&mut self.asked, place);
                 self.settled_end = self.settled_end.max(place + 1);
             }
-            Status::Unsent => take_place(&mut self.waiting, place),
+            Status::Unsent => {
+                take_place(&mut self.refused, place);
+                take_place(&mut self.later, place);
+            }
+        }
+    }
+
+    /// The first part that waits.
+    fn first_waiting(&self) -> Option<u64>
+        ensures first { IfSome result (λ place. IsFirst place self.now.waiting) }
+        ensures none { IfNone result ((place : ℕ) → In place self.now.waiting → ⊥) }
+    {
+        match self.refused.front() {
+            Some(place) => Some(*place),
+            None => Some(*self.later.front()?),
+        }
+    }
+
+    /// The first part that waits is on its way.
+    fn note_asked(&mut self, place: u64, link: usize)
+        requires { MayBecome place (Asked link) self.old }
+        ensures { self.new ≡ with_status place (Asked link) self.old }
+    {
+        take_first(&mut self.refused, &mut self.later);
+        self.asked.push_back_reserved(place);
+        self.link = link;
+    }
+
+    /// A part that is on its way waits again.
+    fn put_back(&mut self, place: u64)
+        requires { MayBecome place Waits self.old }
+        ensures { self.new ≡ with_status place Waits self.old }
+    {
+        take_place(&mut self.asked, place);
+        if self.asked.is_empty() {
+            move_before(&mut self.refused, &mut self.later);
+            put_place(&mut self.later, place);
+        } else {
+            put_place(&mut self.refused, place);
         }
     }
 }

@@ -5,7 +5,7 @@ ghost use Rattle.std.specs.Ordering.{nat_cmp};
 ghost use Rattle.std.specs.BTreeMap.{get, UpdatesBy};
 ghost use Rattle.session_core.specs.declared.part.PartOrder.TheVariants.{OfSlot};
 ghost use Rattle.session_core.specs.declared.ordered_part.Status.{Status};
-ghost use Rattle.session_core.specs.Inner.Lane.{In, joined, with_status, MayBecome, IsNext, IsLinkOf};
+ghost use Rattle.session_core.specs.Inner.Lane.{In, joined, with_status, MayJoin, MayBecome, IsNext, IsLinkOf};
 ghost use Rattle.session_core.specs.Inner.Tied.{lane_of, Stepped, AreSame, IsEmpty};
 
 use crate::lane::{Lane, LaneAskable};
@@ -24,7 +24,7 @@ pub(crate) fn join(
     order: PartOrder,
     place: u64,
 ) -> Result<(), AllocError>
-    requires { (slot q : ℕ) → order ≡ OfSlot slot → In q (lane_of slot lanes.old).waiting → q < place }
+    requires { (slot : ℕ) → order ≡ OfSlot slot → MayJoin place (lane_of slot lanes.old) }
     ensures joined { OnOk result (Stepped order (joined place) lanes.old lanes.new) }
     ensures err { OnErr result (AreSame lanes.old lanes.new) }
     ensures slot { OnErr result ((slot : ℕ) × (order ≡ OfSlot slot)) }
@@ -73,7 +73,7 @@ pub(crate) fn overtaken(lanes: &Lanes, slot: u16) -> Option<u64>
 }
 
 fn join_slot(alloc: Global, lanes: &mut Lanes, slot: u16, place: u64) -> Result<(), AllocError>
-    requires { (q : ℕ) → In q (lane_of slot lanes.old).waiting → q < place }
+    requires { MayJoin place (lane_of slot lanes.old) }
     ensures joined { OnOk result (Stepped (OfSlot slot) (joined place) lanes.old lanes.new) }
     ensures err { OnErr result (AreSame lanes.old lanes.new) }
 {

@@ -21,7 +21,7 @@ use std::collections::{BTreeMap, BTreeSet};
 /// that was not used yet, or was forgotten, is a caller without calls.
 ///
 /// A call takes a time that grows with the logarithm of the number of callers and of the parts of one,
-/// averaged over the calls.
+/// averaged over the calls, except as [`CallerOrder`] says.
 #[derive(Drop)]
 pub(crate) struct Callers {
     callers: BTreeMap<u64, Caller>,

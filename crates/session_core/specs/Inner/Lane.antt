@@ -17,6 +17,10 @@ abbrev pub without : ℕ → List ℕ → List ℕ
 without place [] = []
 without place (x ∷ xs) = if x == place then without place xs else x ∷ without place xs
 
+-- the lowest place
+abbrev pub IsFirst : ℕ → List ℕ → Type 0
+IsFirst place places = In place places × ((q : ℕ) → In q places → place ≤ q)
+
 -- with this place before the first higher one
 abbrev pub with_place : ℕ → List ℕ → List ℕ
 with_place place [] = place ∷ []
@@ -50,12 +54,23 @@ with_status place Settled lane =
     record lane { asked = without place lane.asked; settled_end = max lane.settled_end (place + 1) }
 with_status place Unsent lane = record lane { waiting = without place lane.waiting }
 
+-- a part at this place may join: it comes after each other part
+abbrev pub MayJoin : ℕ → Lane → Type 0
+MayJoin place lane = (q : ℕ) → In q lane.waiting ⊎ In q lane.asked → q < place
+
 -- when the part at this place may get this status
 abbrev pub MayBecome : ℕ → Status → Lane → Type 0
 MayBecome place Waits lane = In place lane.asked × (In place lane.waiting → ⊥)
-MayBecome place (Asked link) lane = In place lane.waiting × ((q : ℕ) → In q lane.asked → q < place)
+MayBecome place (Asked link) lane = IsFirst place lane.waiting × ((q : ℕ) → In q lane.asked → q < place)
 MayBecome place Settled lane = In place lane.asked × (place + 1 < 2 ^ 64)
 MayBecome place Unsent lane = In place lane.waiting
+
+-- How the lists of a lane lie to one another. Those that wait are in two lists, of which one has each that was
+-- refused while another was on its way.
+pub record AreInOrder (refused later asked : List ℕ) : Type 0 where
+  pub waiting_ascends : Ascends (refused ++ later)
+  pub asked_ascends : Ascends asked
+  pub behind : (p q : ℕ) → In p asked → In q later → p < q
 
 -- The part at this place is the first that waits, and none behind it is on its way or settled.
 pub record IsNext (place : ℕ) (lane : Lane) : Type 0 where

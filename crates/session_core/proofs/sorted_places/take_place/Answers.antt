@@ -1,8 +1,11 @@
 use Rattle.std.proofs.Common.{◌≡◌, ℕ, Option, Ok, Err, OnSome, subst, sym, ◌∙◌, arith}
 use Rattle.std.proofs.lemmas.List.Sorted.{searched}
 use Rattle.std.specs.List.{remove}
-use Rattle.session_core.proofs.Ascending.{rises, removed, not_removed}
+use Rattle.session_core.proofs.Ascending.{rises, removed, not_removed, without_head}
 use Rattle.session_core.proofs.sorted_places.take_place.Goals as goal
+
+pub returns-then-is_first-clause-items : goal.returns-then-is_first-clause-items
+returns-then-is_first-clause-items c = c.pop_front.ensures.rest ∙ sym (without_head c.args.place c.args.places.now.items c.requires (c.is_first.ensures c.if-is_first.true))
 
 pub returns-in-Ok-clause-items : goal.returns-in-Ok-clause-items
 returns-in-Ok-clause-items c =

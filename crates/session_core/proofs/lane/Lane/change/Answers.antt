@@ -1,63 +1,49 @@
-use Rattle.std.proofs.Common.{◌≡◌, ℕ, [], ◌∷◌, length, length-append, sym, subst, ap, ◌∙◌, arith}
+use Rattle.std.proofs.Common.{◌++◌, List, ℕ, length, refl, sym, ap, ◌∙◌, arith}
 use Rattle.session_core.specs.declared.ordered_part.Status.{Status}
-use Rattle.session_core.specs.declared.ordered_part.Status.TheVariants.{Waits, Asked}
-use Rattle.session_core.specs.Inner.Lane.{Lane, Ascends, MayBecome}
-use Rattle.session_core.proofs.Ascending.{ascends_pushed, ascends_put, ascends_without, length-put, length-without, length-without_le}
+use Rattle.session_core.specs.declared.ordered_part.Status.TheVariants.{Unsent}
+use Rattle.session_core.specs.Inner.Lane.{without, with_status}
+use Rattle.session_core.proofs.Ascending.{ascends_split, without_appended, length-without_le}
+use Rattle.session_core.proofs.LaneLists.{order_settled, order_unsent, order_is, lane_is}
 use Rattle.session_core.proofs.lane.Lane.change.Goals as goal
-
-may : (place : ℕ) (given status : Status) (seen own : Lane) → given ≡ status → seen ≡ own → MayBecome place given own → MayBecome place status seen
-may place given status seen own is view h = subst (λ (l : Lane). MayBecome place status l) (sym view) (subst (λ (s : Status). MayBecome place s own) is h)
 
 pub invariant_of-self : goal.invariant_of-self
 invariant_of-self c =
     let s = c.self.inside in
     let i = c.self.invariant in
-    let m : MayBecome c.args.place Waits (record { waiting = s.waiting.items; asked = s.asked.items; settled_end = s.settled_end; link = s.link }) =
-    may c.args.place c.args.status Waits (record { waiting = s.waiting.items; asked = s.asked.items; settled_end = s.settled_end; link = s.link }) c.args.self.now c.in-Waits.is c.self.view_is c.requires in
-    let more = ap length c.put_place.ensures.items ∙ length-put c.args.place s.waiting.items in
     let less = ap length c.take_place.ensures.items in
-    let fewer = length-without c.args.place s.asked.items i.1 m.0 in (
-      subst Ascends (sym c.put_place.ensures.items) (ascends_put c.args.place s.waiting.items i.0 m.1),
-      subst Ascends (sym c.take_place.ensures.items) (ascends_without c.args.place s.asked.items i.1),
-      omega (arith, more, less, fewer, i.2, c.put_place.ensures.capacity),
-      omega (arith, more, less, fewer, i.3, c.take_place.ensures.capacity),
-    )
-
-pub invariant_of-self-in-Asked : goal.invariant_of-self-in-Asked
-invariant_of-self-in-Asked c =
-    let s = c.self.inside in
-    let i = c.self.invariant in
-    let m : MayBecome c.args.place (Asked c.in-Asked.link) (record { waiting = s.waiting.items; asked = s.asked.items; settled_end = s.settled_end; link = s.link }) =
-    may c.args.place c.args.status (Asked c.in-Asked.link) (record { waiting = s.waiting.items; asked = s.asked.items; settled_end = s.settled_end; link = s.link }) c.args.self.now c.in-Asked.is c.self.view_is c.requires in
-    let more = ap length c.push_back_reserved.ensures.items ∙ length-append s.asked.items (c.args.place ∷ []) in
-    let less = ap length c.take_place-in-Asked.ensures.items in
-    let fewer = length-without c.args.place s.waiting.items i.0 m.0 in (
-      subst Ascends (sym c.take_place-in-Asked.ensures.items) (ascends_without c.args.place s.waiting.items i.0),
-      subst Ascends (sym c.push_back_reserved.ensures.items) (ascends_pushed c.args.place s.asked.items i.1 m.1),
-      omega (arith, more, less, fewer, i.2, c.take_place-in-Asked.ensures.capacity),
-      omega (arith, more, less, fewer, i.3, c.push_back_reserved.ensures.capacity),
-    )
-
-pub invariant_of-self-in-Settled : goal.invariant_of-self-in-Settled
-invariant_of-self-in-Settled c =
-    let s = c.self.inside in
-    let i = c.self.invariant in
-    let less = ap length c.take_place-in-Settled.ensures.items in
     let fewer = length-without_le c.args.place s.asked.items in (
-      i.0,
-      subst Ascends (sym c.take_place-in-Settled.ensures.items) (ascends_without c.args.place s.asked.items i.1),
+      order_is refl refl c.take_place.ensures.items (order_settled c.args.place s.refused.items s.later.items s.asked.items i.0),
+      omega (arith, less, fewer, i.1),
       omega (arith, less, fewer, i.2),
-      omega (arith, less, fewer, i.3, c.take_place-in-Settled.ensures.capacity),
+      omega (arith, less, fewer, i.3, c.take_place.ensures.capacity),
     )
+
+pub take_place-requires-in-Unsent : goal.take_place-requires-in-Unsent
+take_place-requires-in-Unsent c = let s = c.self-in-Unsent.inside in (ascends_split s.refused.items s.later.items c.self-in-Unsent.invariant.0.waiting_ascends).0
+
+pub take_place-requires-in-Unsent-2 : goal.take_place-requires-in-Unsent-2
+take_place-requires-in-Unsent-2 c = let s = c.self-in-Unsent.inside in (ascends_split s.refused.items s.later.items c.self-in-Unsent.invariant.0.waiting_ascends).1
 
 pub invariant_of-self-in-Unsent : goal.invariant_of-self-in-Unsent
 invariant_of-self-in-Unsent c =
-    let s = c.self.inside in
-    let i = c.self.invariant in
-    let less = ap length c.take_place-in-Unsent.ensures.items in
-    let fewer = length-without_le c.args.place s.waiting.items in (
-      subst Ascends (sym c.take_place-in-Unsent.ensures.items) (ascends_without c.args.place s.waiting.items i.0),
-      i.1,
-      omega (arith, less, fewer, i.2, c.take_place-in-Unsent.ensures.capacity),
-      omega (arith, less, fewer, i.3),
+    let s = c.self-in-Unsent.inside in
+    let i = c.self-in-Unsent.invariant in
+    let p = c.args.place in
+    let refused = ap length c.take_place-in-Unsent.ensures.items in
+    let fewer = length-without_le p s.refused.items in
+    let later = ap length c.take_place-in-Unsent-2.ensures.items in
+    let less = length-without_le p s.later.items in (
+      order_is c.take_place-in-Unsent.ensures.items c.take_place-in-Unsent-2.ensures.items refl (order_unsent p s.refused.items s.later.items s.asked.items i.0),
+      omega (arith, refused, fewer, later, less, i.1, c.take_place-in-Unsent.ensures.capacity),
+      omega (arith, refused, fewer, later, less, i.2, c.take_place-in-Unsent-2.ensures.capacity),
+      omega (arith, refused, fewer, later, less, i.3),
     )
+
+pub returns-in-Unsent : goal.returns-in-Unsent
+returns-in-Unsent c =
+    let s = c.self-in-Unsent.inside in
+    let p = c.args.place in
+    let left = ap (λ (xs : List ℕ). xs ++ c.take_place-in-Unsent-2.new.places.items) c.take_place-in-Unsent.ensures.items
+    ∙ ap (λ (xs : List ℕ). without p s.refused.items ++ xs) c.take_place-in-Unsent-2.ensures.items
+    ∙ sym (without_appended p s.refused.items s.later.items) in
+    lane_is s.settled_end s.link left refl ∙ ap (with_status p Unsent) c.self-in-Unsent.view_is ∙ ap (λ (status : Status). with_status p status c.args.self.now) (sym c.in-Unsent.is)

@@ -4,20 +4,19 @@ use Rattle.session_core.specs.declared.part.PartOrder.TheVariants.{OfSlot}
 use Rattle.session_core.specs.declared.ordered_part.OrderedPart.{OrderedPart}
 use Rattle.session_core.specs.declared.ordered_part.Status.TheVariants.{Waits}
 use Rattle.session_core.specs.Order.{Order}
-use Rattle.session_core.specs.Inner.Lane.{joined}
-use Rattle.session_core.specs.Inner.Tied.{IsTied, MayFollow, Stepped, entered, pushed}
-use Rattle.session_core.proofs.OrderTies.{tied_pushed, tied_same, waits_below}
+use Rattle.session_core.specs.Inner.Lane.{joined, MayJoin}
+use Rattle.session_core.specs.Inner.Tied.{IsTied, lane_of, MayFollow, Stepped, entered, pushed}
+use Rattle.session_core.proofs.OrderTies.{tied_pushed, tied_same, joins_last}
 use Rattle.session_core.proofs.ordered_parts.OrderedParts.push.Goals as goal
 
 same_bars : (order : PartOrder) (place : ℕ) (bars : List ℕ) → ((slot : ℕ) × (order ≡ OfSlot slot)) → entered order place bars ≡ bars
 same_bars order place bars of = ap (λ o. entered o place bars) of.1
 
 pub join-requires : goal.join-requires
-join-requires c = λ slot q is h.
+join-requires c = λ slot is.
     let s = c.self.inside in
     let end : c.end-place.result ≡ s.first + length s.parts.items = c.end-place.ensures.end ∙ sym (ap (λ (o : Order). o.first + length o.parts) c.self.view_is) in
-    let lt = waits_below (record { first = s.first; parts = s.parts.items }) s.lanes s.bars.items slot q c.self.invariant h in
-    omega (arith, lt, end)
+    subst (λ (n : ℕ). MayJoin n (lane_of slot s.lanes)) (sym end) (joins_last (record { first = s.first; parts = s.parts.items }) s.lanes s.bars.items slot c.self.invariant)
 
 pub invariant_of-self-in_err-join : goal.invariant_of-self-in_err-join
 invariant_of-self-in_err-join c =
