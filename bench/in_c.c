@@ -256,7 +256,7 @@ static void time_the_rest(void) {
     free(map.bytes);
 }
 
-enum { LINKS = 100, CALLS = 10000, ROOM = 1 << 20 };
+enum { LINKS = 100, CALLS = 10000, MOST_CALLS = 100000, ROOM = 1 << 22, PAUSE = 10 };
 
 /* A session over links whose nodes have neighbouring slots, and what its shell has. */
 typedef struct shell {
@@ -276,8 +276,8 @@ static void answer_links(shell *it, size_t request_len) {
 
 /* Opens a session, connects its links and answers with the map. */
 static shell shell_of(size_t nodes) {
-    slotroute_session_settings settings = {1 << 25, CALLS, 1 << 30, 0, 10, 16};
-    shell it = {{NULL}, some_room(nodes * 80 + 64), some_room(CALLS * 11 + 16), some_room(ROOM), some_room(1 << 25)};
+    slotroute_session_settings settings = {1 << 25, MOST_CALLS, 1 << 30, 0, PAUSE, 16};
+    shell it = {{NULL}, some_room(nodes * 80 + 64), some_room(MOST_CALLS * 11 + 16), some_room(ROOM), some_room(1 << 25)};
     size_t node, link;
     add(&it.map, "*%zu\r\n", nodes);
     for (size_t i = 0; i < nodes; i++) {
@@ -285,7 +285,7 @@ static shell shell_of(size_t nodes) {
         add(&it.map, ":%zu\r\n", (i + 1) * SLOTROUTE_SLOTS / nodes - 1);
         add(&it.map, "*2\r\n$9\r\n127.0.0.1\r\n:%zu\r\n", 7000 + i);
     }
-    for (size_t i = 0; i < CALLS; i++) add(&it.replies, "$5\r\nvalue\r\n", i);
+    for (size_t i = 0; i < MOST_CALLS; i++) add(&it.replies, "$5\r\nvalue\r\n", i);
     if (slotroute_session_open(&settings, NULL, 0, &it.session) != SLOTROUTE_DONE) exit(3);
     for (size_t i = 0; i < nodes; i++)
         slotroute_session_add_node(&it.session, (const uint8_t *)"127.0.0.1", 9, (uint16_t)(7000 + i), &node);
@@ -331,14 +331,54 @@ static void ask_gets(shell *it, size_t callers) {
     exit(1);
 }
 
+static const char *one_get = "*2\r\n$3\r\nGET\r\n$3\r\nkey\r\n";
+
+/* One caller begins so many GETs of one key. */
+static void begin_gets(shell *it, size_t count) {
+    uint64_t call;
+    for (size_t i = 0; i < count; i++)
+        slotroute_session_begin(&it->session, 1, (const uint8_t *)one_get, strlen(one_get), 1 << 30, &call);
+}
+
+/* One caller asks GETs of one key. The node refuses the first half, while the others wait, and then it
+ * answers all. `at` is the shell's time, and a refusal has so many bytes. */
+static void refuse_half(shell *it, size_t calls, const text *refusals, size_t refusal_len, uint64_t *at) {
+    size_t link;
+    begin_gets(it, calls / 2);
+    slotroute_session_link_to_write(&it->session, &link);
+    slotroute_session_wrote(&it->session, link, calls / 2 * strlen(one_get));
+    slotroute_session_read(&it->session, link, refusals->bytes, refusal_len);
+    begin_gets(it, calls / 2);
+    slotroute_session_read(&it->session, link, refusals->bytes, (calls / 2 - 1) * refusal_len);
+    slotroute_session_advance(&it->session, *at += PAUSE);
+    answer_links(it, strlen(one_get));
+    if (take_replies(it) == calls) return;
+    fputs("a session gives too few replies to refused requests\n", stderr);
+    exit(1);
+}
+
+static void time_refusals(void) {
+    const char *refusal = "-TRYAGAIN later\r\n";
+    text refusals = some_room(MOST_CALLS * 17);
+    shell it = shell_of(1);
+    uint64_t at = 1;
+    double own;
+    for (size_t i = 0; i < MOST_CALLS / 2; i++) add(&refusals, refusal, i);
+    for (size_t calls = 1000; calls <= MOST_CALLS; calls *= 10) {
+        LEAST(own, 1, refuse_half(&it, calls, &refusals, strlen(refusal), &at));
+        printf("| a GET of a session, half refused once | %zu of a caller | %.0f | | |\n", calls, own / (double)calls);
+    }
+    free_shell(&it);
+    free(refusals.bytes);
+}
+
 /* A reply of so many bytes comes in pieces of 64 KB. */
 static void read_in_pieces(shell *it, size_t bytes, const text *reply) {
     uint64_t call;
     size_t link;
-    const char *request = "*2\r\n$3\r\nGET\r\n$3\r\nkey\r\n";
-    slotroute_session_begin(&it->session, 1, (const uint8_t *)request, strlen(request), 1000, &call);
+    slotroute_session_begin(&it->session, 1, (const uint8_t *)one_get, strlen(one_get), 1000, &call);
     slotroute_session_link_to_write(&it->session, &link);
-    slotroute_session_wrote(&it->session, link, strlen(request));
+    slotroute_session_wrote(&it->session, link, strlen(one_get));
     for (size_t at = 0; at < reply->len; at += 65536)
         slotroute_session_read(&it->session, link, reply->bytes + at, reply->len - at < 65536 ? reply->len - at : 65536);
     if (take_replies(it) == 1 && reply->len > bytes) return;
@@ -376,5 +416,6 @@ int main(void) {
     time_combining();
     time_the_rest();
     time_sessions();
+    time_refusals();
     return 0;
 }
