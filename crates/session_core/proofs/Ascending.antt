@@ -23,26 +23,15 @@ in_pushed q p (x ∷ xs) h = elim h [
   | inr r ↦ elim (in_pushed q p xs r) [ inl e ↦ inl e | inr i ↦ inr (inr i) ]
 ]
 
-pub pushed_in : (q p : ℕ) (xs : List ℕ) → (p ≡ q) ⊎ In q xs → In q (xs ++ p ∷ [])
-pushed_in q p [] h = h
-pushed_in q p (x ∷ xs) h = elim h [
-  | inl e ↦ inr (pushed_in q p xs (inl e))
-  | inr i ↦ elim i [ inl e ↦ inl e | inr r ↦ inr (pushed_in q p xs (inr r)) ]
-]
-
-pub in_appended : (q : ℕ) (xs ys : List ℕ) → In q (xs ++ ys) → In q xs ⊎ In q ys
-in_appended q [] ys h = inr h
-in_appended q (x ∷ xs) ys h = elim h [
-  | inl e ↦ inl (inl e)
-  | inr r ↦ elim (in_appended q xs ys r) [ inl i ↦ inl (inr i) | inr i ↦ inr i ]
-]
-
 pub appended_in : (q : ℕ) (xs ys : List ℕ) → In q xs ⊎ In q ys → In q (xs ++ ys)
 appended_in q [] ys h = elim h [ inl i ↦ absurd i | inr i ↦ i ]
 appended_in q (x ∷ xs) ys h = elim h [
   | inl i ↦ elim i [ inl e ↦ inl e | inr r ↦ inr (appended_in q xs ys (inl r)) ]
   | inr i ↦ inr (appended_in q xs ys (inr i))
 ]
+
+pub pushed_in : (q p : ℕ) (xs : List ℕ) → (p ≡ q) ⊎ In q xs → In q (xs ++ p ∷ [])
+pushed_in q p xs h = appended_in q xs (p ∷ []) (elim h [ inl e ↦ inr (inl e) | inr i ↦ inl i ])
 
 pub in_without : (q p : ℕ) (xs : List ℕ) → In q (without p xs) → (q ≢ p) × In q xs
 in_without q p [] h = absurd h

@@ -18,7 +18,7 @@ use Rattle.session_core.specs.Order.{Order, no_order, ordered_at, is_done, is_ef
 use Rattle.session_core.specs.Inner.Tied.{lane_of, IsSorted, IsFirstBar, IsTied, seen, statuses}
 use Rattle.session_core.proofs.Places.{at_within, none_at}
 use Rattle.session_core.proofs.LaneStates.{lane_none}
-use Rattle.session_core.proofs.OrderTies.{slot_of_both, both_of_slot, status_part, part_status}
+use Rattle.session_core.proofs.OrderTies.{slot_of_both, both_of_slot, status_part, part_status, others_ahead, none_before}
 
 -- a part of an earlier call stands before
 pub call_le : (order : Order) (a b : ℕ) (p q : OrderedPart) → IsSorted order → a ≤ b → ordered_at a order ≡ Some p → ordered_at b order ≡ Some q → p.seat.call ≤ q.seat.call
@@ -88,14 +88,8 @@ next_may order lanes bars slot place link only t n is on =
       (it.0, it.1, it.2),
     )
 
-waits_undone : (p : OrderedPart) → p.status ≡ Waits → is_done p.status ≡ true → ⊥
-waits_undone p e d = let q : false ≡ true = ap is_done (sym e) ∙ d in cc
-
 settled_not : (p : OrderedPart) → p.status ≡ Settled → is_effective p.status ≡ false → ⊥
 settled_not p e f = let q : true ≡ false = ap is_effective (sym e) ∙ f in cc
-
-asked_not : (link : ℕ) (p : OrderedPart) → p.status ≡ Asked link → is_effective p.status ≡ false → ⊥
-asked_not link p e f = let q : true ≡ false = ap is_effective (sym e) ∙ f in cc
 
 pub asks_next : (order : Order) (lanes : BTreeMap ℕ lane.Lane) (bars : List ℕ) (slot place link : ℕ) → IsTied order lanes bars → MayAskAmong have_slot place link order → IsOf slot place order → IsNext place (lane_of slot lanes)
 asks_next order lanes bars slot place link t m of =
@@ -105,16 +99,7 @@ asks_next order lanes bars slot place link t m of =
     let w = at_within place order.first order.parts m.it m.there in
     record {
       waits = l.waiting_there place st;
-      first = λ q h. elim (cases_lt q place) [
-        | inr ge ↦ ge
-        | inl lt ↦
-            let p = status_part slot q order Waits (l.waiting_in q h) in
-            let same = both_of_slot p.0.order m.it.order slot p.2 is in
-            elim (m.earlier q p.0 p.1 (t.sorted.slots q place p.0 m.it lt p.1 m.there same) same) [
-              | inl done ↦ absurd (waits_undone p.0 p.3 done)
-              | inr on ↦ (let z : Waits ≡ Asked link = sym p.3 ∙ on.1 in absurd (cc))
-            ]
-      ];
+      first = λ q h. none_before order place link slot q t.sorted m is (l.waiting_in q h);
       past = elim (cases_lt place (lane_of slot lanes).settled_end) [
         | inr ge ↦ ge
         | inl lt ↦
@@ -128,18 +113,7 @@ asks_next order lanes bars slot place link t m of =
                   absurd (settled_not p.0 p.3 (m.later ((lane_of slot lanes).settled_end - 1) p.0 p.1 (t.sorted.slots place ((lane_of slot lanes).settled_end - 1) m.it p.0 (omega (arith, lt, ne)) m.there p.1 same) same))
             ]
       ];
-      behind = λ q h. elim (cases_lt q place) [
-        | inl lt ↦ lt
-        | inr ge ↦
-            let e = l.asked_in q h in
-            let p = status_part slot q order (Asked (lane_of slot lanes).link) e in
-            elim (cases_eq place q) [
-              | inl here ↦ let z : Some Waits ≡ Some (Asked (lane_of slot lanes).link) = sym st ∙ ap (statuses slot order) here ∙ e in absurd (cc)
-              | inr ne ↦
-                  let same = both_of_slot m.it.order p.0.order slot is p.2 in
-                  absurd (asked_not (lane_of slot lanes).link p.0 p.3 (m.later q p.0 p.1 (t.sorted.slots place q m.it p.0 (omega (arith, ge, ne)) m.there p.1 same) same))
-            ]
-      ];
+      behind = λ q h. (others_ahead order place link slot q (lane_of slot lanes).link t.sorted m is (l.asked_in q h)).1;
     }
 
 -- what is offered, of the one that is next

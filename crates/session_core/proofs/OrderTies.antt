@@ -164,7 +164,7 @@ asked_effective : (link : ℕ) (p : OrderedPart) → p.status ≡ Asked link →
 asked_effective link p e f = let q : true ≡ false = ap is_effective (sym e) ∙ f in cc
 
 -- the other parts of its slot that are on their way, if one may be asked
-others_ahead : (order : Order) (place link slot q other : ℕ) → IsSorted order → (m : MayAskAmong have_slot place link order) → m.it.order ≡ OfSlot slot
+pub others_ahead : (order : Order) (place link slot q other : ℕ) → IsSorted order → (m : MayAskAmong have_slot place link order) → m.it.order ≡ OfSlot slot
     → statuses slot order q ≡ Some (Asked other) → (other ≡ link) × (q < place)
 others_ahead order place link slot q other s m is e =
     let p = status_part slot q order (Asked other) e in
@@ -186,7 +186,7 @@ others_ahead order place link slot q other s m is e =
     ]
 
 -- none that waits is before it
-none_before : (order : Order) (place link slot q : ℕ) → IsSorted order → (m : MayAskAmong have_slot place link order) → m.it.order ≡ OfSlot slot → statuses slot order q ≡ Some Waits → place ≤ q
+pub none_before : (order : Order) (place link slot q : ℕ) → IsSorted order → (m : MayAskAmong have_slot place link order) → m.it.order ≡ OfSlot slot → statuses slot order q ≡ Some Waits → place ≤ q
 none_before order place link slot q s m is e =
     let p = status_part slot q order Waits e in
     elim (cases_lt q place) [

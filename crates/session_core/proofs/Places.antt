@@ -2,6 +2,7 @@
 use Rattle.std.proofs.Common.{true, false, inl, inr, ◌≡◌, ◌≢◌, ◌<◌, ◌≤◌, ◌+◌, ◌-◌, ◌++◌, ℕ, zero, suc, ltb, List, [], ◌∷◌, length, get_or, set, drop, take, None, Some, refl, sym, ap, ◌∙◌, arith}
 use Rattle.std.specs.List.{slice_get}
 use Rattle.std.specs.Option.{option_map}
+use Rattle.std.proofs.lemmas.List.{length-take}
 use Rattle.std.proofs.lemmas.Option.{slice_get_within, slice_get_past, slice_get_read}
 use Rattle.std.proofs.lemmas.Bool.{cases_lt}
 use Rattle.std.proofs.lemmas.Bool.Decides.{nat_tests}
@@ -16,11 +17,7 @@ get_front (x ∷ xs) (suc n) zero h = refl
 get_front (x ∷ xs) (suc n) (suc i) h = get_front xs n i (omega arith)
 
 get_past_front : {X : Type 0} (xs : List X) (n i : ℕ) → n ≤ i → slice_get (take n xs) i ≡ None
-get_past_front [] zero i h = refl
-get_past_front [] (suc n) i h = refl
-get_past_front (x ∷ xs) zero i h = refl
-get_past_front (x ∷ xs) (suc n) zero h = absurd (omega arith)
-get_past_front (x ∷ xs) (suc n) (suc i) h = get_past_front xs n i (omega arith)
+get_past_front xs n i h = let len = length-take n xs in slice_get_past (take n xs) i (omega (arith, len))
 
 get_changed : {X : Type 0} (f : X → X) (i j : ℕ) (xs : List X) → i ≢ j → slice_get (changed f i xs) j ≡ slice_get xs j
 get_changed f i j [] ne = refl
