@@ -17,11 +17,12 @@ use Rattle.session_core.specs.State.{CallState, State, Finish, Happens, after, c
 use Rattle.session_core.proofs.AfterEvents.{slice_get-numbered}
 use Rattle.redis_session.specs.CallReplies.{GivesBytes, IsErrorFor, IsMadeBy, IsOnly, IsReplyOfNodes, IsReplyTo, IsSplitReply, answers_in, cause_of, effect_on, first_unanswered}
 use Rattle.redis_session.specs.Leads.{Finishes}
+use Rattle.redis_session.specs.Rules.{KeepOthers, KeptRules, rule_in}
 use Rattle.redis_session.specs.SessionStates.{Given, Nothing, OfPart, Bytes, SessionState, answer_in, bytes_of, given_of, names}
 use Rattle.redis_session.specs.SplitReplies.{first_error, joined}
 use Rattle.redis_session.specs.Told.{error_reply, unfit_reply}
-use Rattle.redis_session.specs.declared.schedule.ReplyRule.{ReplyRule}
-use Rattle.redis_session.specs.declared.schedule.ReplyRule.TheVariants as rules
+use Rattle.redis_session.specs.declared.rules.ReplyRule.{ReplyRule}
+use Rattle.redis_session.specs.declared.rules.ReplyRule.TheVariants as rules
 use Rattle.redis_session.specs.declared.session.replying.LastReply.{LastReply}
 use Rattle.redis_session.specs.declared.told.Effect.{Effect}
 use Rattle.redis_session.specs.declared.told.ErrorCause.{ErrorCause}
@@ -113,34 +114,43 @@ ok_as (Err y) P Q p q = tt
 
 -- ---- each call
 
--- the call, if it is there, has this reply by a rule
+-- the call, if it is there, has this reply by its rule
 abbrev pub HasReply : SessionState → ℕ → LastReply → Type 0
 HasReply s call reply = (it : CallState) → call_at call s.machine ≡ Some it
-    → (rule : ReplyRule) × IsReplyTo (names s) rule it.parts (bytes_of (given_of reply) s.machine)
+    → IsReplyTo (names s) (rule_in s.rules call) it.parts (bytes_of (given_of reply) s.machine)
 
 module _ {E : Type 0} (before now : SessionState) (call : ℕ) (state : CallState) (result : Result LastReply E) (same : before ≡ now) (at : call_at call before.machine ≡ Some state) where
-  for_state : (reply : LastReply) (rule : ReplyRule) → IsReplyTo (names now) rule state.parts (bytes_of (given_of reply) now.machine) → HasReply now call reply
-  for_state reply rule made it its =
+  for_state : (reply : LastReply) → IsReplyTo (names now) (rule_in now.rules call) state.parts (bytes_of (given_of reply) now.machine) → HasReply now call reply
+  for_state reply made it its =
       let there : call_at call now.machine ≡ Some state = subst (λ (s : SessionState). call_at call s.machine ≡ Some state) same at in
-      (rule, subst (λ (x : CallState). IsReplyTo (names now) rule x.parts (bytes_of (given_of reply) now.machine)) (same_Some state it (sym there ∙ its)) made)
+      subst (λ (x : CallState). IsReplyTo (names now) (rule_in now.rules call) x.parts (bytes_of (given_of reply) now.machine)) (same_Some state it (sym there ∙ its)) made
+
+  pub rule_there : (found rule : ReplyRule) → found ≡ rule_in before.rules call → found ≡ rule → rule_in now.rules call ≡ rule
+  rule_there found rule its is = ap (λ (s : SessionState). rule_in s.rules call) (sym same) ∙ sym its ∙ is
+
+  -- each part was answered, and the reply is made by this rule
+  made_by : (reply : LastReply) (rule : ReplyRule) → rule_in now.rules call ≡ rule → None ≡ first_unanswered state.parts
+      → IsMadeBy (names now) rule (answers_in state.parts) (bytes_of (given_of reply) now.machine) → HasReply now call reply
+  made_by reply rule is none made = for_state reply
+      (rw is (reply_made (names now) rule state.parts (bytes_of (given_of reply) now.machine) none made))
 
   pub fault_there : (part : PartState) → Some part ≡ first_unanswered state.parts → IfOk result (GivesBytes call (IsErrorFor part.phase (effect_on state.parts))) → IfOk result (HasReply now call)
   fault_there part is gives = ok_as result (GivesBytes call (IsErrorFor part.phase (effect_on state.parts))) (HasReply now call) gives
-      (λ reply given. for_state reply rules.One (reply_unanswered (names now) rules.One state.parts (bytes_of (given_of reply) now.machine) part is
+      (λ reply given. for_state reply (reply_unanswered (names now) (rule_in now.rules call) state.parts (bytes_of (given_of reply) now.machine) part is
       (given_bytes now.machine call (IsErrorFor part.phase (effect_on state.parts)) reply given)))
 
-  pub split_there : (request : Vec ℕ Global) (text : List ℕ) → None ≡ first_unanswered state.parts → text ≡ request.items
+  pub split_there : (request : Vec ℕ Global) (text : List ℕ) → rule_in now.rules call ≡ rules.Split request → None ≡ first_unanswered state.parts → text ≡ request.items
       → IfOk result (GivesBytes call (IsSplitReply (names now) text (answers_in state.parts))) → IfOk result (HasReply now call)
-  split_there request text none is gives = ok_as result (GivesBytes call (IsSplitReply (names now) text (answers_in state.parts))) (HasReply now call) gives
-      (λ reply given. for_state reply (rules.Split request) (reply_made (names now) (rules.Split request) state.parts (bytes_of (given_of reply) now.machine) none
+  split_there request text rule none is gives = ok_as result (GivesBytes call (IsSplitReply (names now) text (answers_in state.parts))) (HasReply now call) gives
+      (λ reply given. made_by reply (rules.Split request) rule none
       (subst (λ (t : List ℕ). IsSplitReply (names now) t (answers_in state.parts) (bytes_of (given_of reply) now.machine)) is
-      (given_bytes now.machine call (IsSplitReply (names now) text (answers_in state.parts)) reply given))))
+      (given_bytes now.machine call (IsSplitReply (names now) text (answers_in state.parts)) reply given)))
 
-  pub several_there : (policy : ResponsePolicy) → None ≡ first_unanswered state.parts
+  pub several_there : (policy : ResponsePolicy) → rule_in now.rules call ≡ rules.Several policy → None ≡ first_unanswered state.parts
       → IfOk result (GivesBytes call (IsReplyOfNodes policy (answers_in state.parts))) → IfOk result (HasReply now call)
-  several_there policy none gives = ok_as result (GivesBytes call (IsReplyOfNodes policy (answers_in state.parts))) (HasReply now call) gives
-      (λ reply given. for_state reply (rules.Several policy) (reply_made (names now) (rules.Several policy) state.parts (bytes_of (given_of reply) now.machine) none
-      (given_bytes now.machine call (IsReplyOfNodes policy (answers_in state.parts)) reply given)))
+  several_there policy rule none gives = ok_as result (GivesBytes call (IsReplyOfNodes policy (answers_in state.parts))) (HasReply now call) gives
+      (λ reply given. made_by reply (rules.Several policy) rule none
+      (given_bytes now.machine call (IsReplyOfNodes policy (answers_in state.parts)) reply given))
 
 -- ---- what a call has for a reply, after it went out
 
@@ -166,19 +176,20 @@ bytes_stay Nothing call state s = refl
 bytes_stay (OfPart c) call state s = ap answer_in (part_stays c call state s)
 bytes_stay (Bytes c bytes) call state s = refl
 
-pub finishes_by : (caller call : ℕ) (old now : SessionState) (machine : State) (reply : LastReply) (owed state : CallState) → old ≡ now
+pub finishes_by : (caller call : ℕ) (old now : SessionState) (machine : State) (left : KeptRules) (reply : LastReply) (owed state : CallState) → old ≡ now
     → call_at call old.machine ≡ Some owed → owed.caller ≡ caller → Happens old.machine (Finish call state) machine
-    → HasReply now call reply → Finishes caller call now (record old { machine = machine; given = given_of reply })
-finishes_by caller call old now machine reply owed state same at its happens made =
+    → KeepOthers call old.rules left
+    → HasReply now call reply → Finishes caller call now (record old { machine = machine; rules = left; given = given_of reply })
+finishes_by caller call old now machine left reply owed state same at its happens keep made =
     let of_old : HasReply old call reply = subst (λ (s : SessionState). HasReply s call reply) (sym same) made in
     let it = of_old state happens.may.call_is in
     let bytes : bytes_of (given_of reply) machine ≡ bytes_of (given_of reply) old.machine =
     ap (bytes_of (given_of reply)) happens.is ∙ bytes_stay (given_of reply) call state old.machine in
-    subst (λ (s : SessionState). Finishes caller call s (record old { machine = machine; given = given_of reply })) same (record {
+    subst (λ (s : SessionState). Finishes caller call s (record old { machine = machine; rules = left; given = given_of reply })) same (record {
       state = state;
       given = happens;
       caller_is = ap (λ (x : CallState). x.caller) (same_Some state owed (sym happens.may.call_is ∙ at)) ∙ its;
-      rule = it.0;
-      reply_is = subst (IsReplyTo (names old) it.0 state.parts) (sym bytes) it.1;
+      reply_is = subst (IsReplyTo (names old) (rule_in old.rules call) state.parts) (sym bytes) it;
+      keep_rules = keep;
       others = refl;
     })

@@ -1,6 +1,7 @@
 mod AddedRows
 pub mod Begins
 pub mod GivenReplies
+mod KeptRules
 pub mod Leads
 mod NodeTables
 mod OwnSlots

@@ -25,8 +25,9 @@ pub look_up-found : (map : Map) (route : SlotRoute) (found : Option (Bor Address
 look_up-found map route None is = is
 look_up-found map route (Some node) is = is
 
-other_slot : (slot other : ℕ) → other ≢ slot → is_at (nat_cmp slot) other ≡ false
-other_slot slot other ne = grind (arith, nat_tests)
+-- another number is not found
+pub other_number : (number other : ℕ) → other ≢ number → is_at (nat_cmp number) other ≡ false
+other_number number other ne = grind (arith, nat_tests)
 
 -- one slot has another MOVED
 pub learns_moved : (slot : ℕ) (node : Address) (map : Map) (count next : ℕ) (old new : BTreeMap ℕ Moved)
@@ -35,7 +36,7 @@ pub learns_moved : (slot : ℕ) (node : Address) (map : Map) (count next : ℕ) 
 learns_moved slot node map count next old new updates is = record {
   moved = updates.1;
   count = is;
-  others = λ other ne. updates.2 other (other_slot slot other ne);
+  others = λ other ne. updates.2 other (other_number slot other ne);
   map = refl;
 }
 

@@ -16,8 +16,8 @@ use Rattle.session_core.specs.declared.part.Cause.TheVariants as causes
 use Rattle.redis_session.specs.SessionStates.{Bytes, answer_of, given_of}
 use Rattle.redis_session.specs.SplitReplies.{is_error}
 use Rattle.redis_session.specs.Told.{effect_of, error_reply, no_tries_reply, unfit_reply}
-use Rattle.redis_session.specs.declared.schedule.ReplyRule.{ReplyRule}
-use Rattle.redis_session.specs.declared.schedule.ReplyRule.TheVariants as rules
+use Rattle.redis_session.specs.declared.rules.ReplyRule.{ReplyRule}
+use Rattle.redis_session.specs.declared.rules.ReplyRule.TheVariants as rules
 use Rattle.redis_session.specs.declared.session.replying.LastReply.{LastReply}
 use Rattle.redis_session.specs.declared.told.Effect.{Effect}
 use Rattle.redis_session.specs.declared.told.ErrorCause.{ErrorCause}

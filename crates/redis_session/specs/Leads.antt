@@ -4,11 +4,12 @@ use Rattle.std.specs.List.{list_all}
 use Rattle.session_core.specs.declared.link.Standing.{Standing}
 use Rattle.session_core.specs.Channel.{Channel}
 use Rattle.session_core.specs.LinkEvents as link
-use Rattle.session_core.specs.Part.{PartState}
 use Rattle.session_core.specs.State.{CallState, Event, Open, On, Begin, GiveUp, Finish, Happens, IsLink, Run}
+use Rattle.session_core.specs.Part.{PartState}
+use Rattle.redis_session.specs.Begins.{IsErrand}
 use Rattle.redis_session.specs.CallReplies.{IsReplyTo}
+use Rattle.redis_session.specs.Rules.{KeepOthers, rule_in}
 use Rattle.redis_session.specs.SessionStates.{SessionState, names, last_reply, without_reply}
-use Rattle.redis_session.specs.declared.schedule.ReplyRule.{ReplyRule}
 
 -- The session may do this by itself. All else is reported by its shell: that a connection is there or ended, what
 -- was written and read, that a caller asks something, takes a reply or waits no more.
@@ -72,19 +73,29 @@ abbrev pub ConnectsNot : SessionState → SessionState → Type 0
 ConnectsNot old new =
     ((number most : ℕ) × (mid : SessionState) × Reports (Open number most) old mid × Ends number mid new) ⊎ (new ≡ old)
 
--- A call of this caller begins, and has this number.
-abbrev pub BeginsCall : (caller call : ℕ) → SessionState → SessionState → Type 0
-BeginsCall caller call old new = (parts : List PartState) × Reports (Begin call caller parts) old new
+-- This happens to the links and calls of a session. Each other call has the rule that it had, and nothing else changes.
+pub record DoesTo (call : ℕ) (event : Event) (old new : SessionState) : Type 0 where
+  pub happens : Happens old.machine event new.machine
+  pub keep_rules : KeepOthers call old.rules new.rules
+  pub others : new ≡ record old { machine = new.machine; rules = new.rules }
+
+-- A call of this caller begins, and has this number. It asks what the request asks, and its reply is to be made so.
+pub record BeginsCall (caller : ℕ) (request : List ℕ) (call : ℕ) (old new : SessionState) : Type 0 where
+  pub mid : SessionState
+  pub parts : List PartState
+  pub begins : DoesTo call (Begin call caller parts) old mid
+  pub errand : IsErrand (names old) old.added request (rule_in mid.rules call) parts
+  pub leads : Leads mid new
 
 -- The session gives this caller the reply to this call. Its turn has come: the caller is owed no reply to an earlier
--- call. The bytes of the reply are those that the rule makes of the answers to the call's own parts.
+-- call. The bytes of the reply are those that the call's own rule makes of the answers to its own parts.
 pub record Finishes (caller call : ℕ) (old new : SessionState) : Type 0 where
   pub state : CallState
   pub given : Happens old.machine (Finish call state) new.machine
   pub caller_is : state.caller ≡ caller
-  pub rule : ReplyRule
-  pub reply_is : IsReplyTo (names old) rule state.parts (last_reply new)
-  pub others : new ≡ record old { machine = new.machine; given = new.given }
+  pub reply_is : IsReplyTo (names old) (rule_in old.rules call) state.parts (last_reply new)
+  pub keep_rules : KeepOthers call old.rules new.rules
+  pub others : new ≡ record old { machine = new.machine; rules = new.rules; given = new.given }
 
 -- The last reply is forgotten. After steps of its own, the session gives this caller the reply to this call.
 pub record GivesReply (caller call : ℕ) (old new : SessionState) : Type 0 where
@@ -92,6 +103,8 @@ pub record GivesReply (caller call : ℕ) (old new : SessionState) : Type 0 wher
   pub leads : Leads (without_reply old) mid
   pub finishes : Finishes caller call mid new
 
--- A call is given up.
-abbrev pub GivesUp : ℕ → SessionState → SessionState → Type 0
-GivesUp call old new = Reports (GiveUp call) old new
+-- A call is given up, and then the session goes on by itself.
+pub record GivesUp (call : ℕ) (old new : SessionState) : Type 0 where
+  pub mid : SessionState
+  pub gives_up : DoesTo call (GiveUp call) old mid
+  pub leads : Leads mid new

@@ -12,6 +12,7 @@ pub mod CommandKinds
 pub mod Leads
 pub mod Plans
 pub mod Refusals
+pub mod Rules
 pub mod SessionStates
 pub mod SessionView
 pub mod SharedNames

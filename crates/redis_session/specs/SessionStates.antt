@@ -5,6 +5,7 @@ use Rattle.session_core.specs.State.{State, part_at, start}
 use Rattle.redis_routing.specs.Names.{Names, names_of}
 use Rattle.redis_routing.specs.Registry.{Registrations}
 use Rattle.redis_session.specs.Added.{Added}
+use Rattle.redis_session.specs.Rules.{KeptRules}
 use Rattle.redis_session.specs.Told.{error_reply, unfit_reply}
 use Rattle.redis_session.specs.declared.session.replying.LastReply.{LastReply}
 use Rattle.redis_session.specs.declared.session.replying.LastReply.TheVariants as last
@@ -27,6 +28,8 @@ given_of (last.Unfit call) = Bytes call unfit_reply
 pub record SessionState : Type 0 where
   -- its links and its calls
   pub machine : State
+  -- how the replies to its calls are made
+  pub rules : KeptRules
   pub given : Given
   -- the names of the commands that only read
   pub read_only : List (List ℕ)
@@ -38,7 +41,7 @@ pub record SessionState : Type 0 where
 -- a session of no links and no calls, which was told of these names
 abbrev pub new_session : List (List ℕ) → Registrations → Added → SessionState
 new_session read_only registered added =
-    record { machine = start; given = Nothing; read_only = read_only; registered = registered; added = added }
+    record { machine = start; rules = []; given = Nothing; read_only = read_only; registered = registered; added = added }
 
 -- what it was told of names when it began
 abbrev pub names : SessionState → Names

@@ -5,6 +5,7 @@ use Rattle.redis_session.specs.declared.session.Session.TheInside.{Inside}
 abbrev pub view_of : Inside → SessionState
 view_of s = record {
   machine = s.machine;
+  rules = s.rules;
   given = given_of s.reply;
   read_only = s.settings.read_only;
   registered = s.settings.registry;

@@ -32,6 +32,7 @@ mod plain_names;
 mod plan;
 mod refusal;
 mod reply;
+mod rules;
 mod schedule;
 mod session;
 mod settings;

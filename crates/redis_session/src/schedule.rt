@@ -7,7 +7,6 @@ mod due;
 mod lists;
 
 use crate::schedule::callers::Callers;
-use redis_routing::ResponsePolicy;
 use session_core::Seat;
 use std::alloc::{AllocError, Global};
 use std::collections::{BTreeSet, VecDeque};
@@ -44,17 +43,6 @@ pub(crate) enum Target {
     Nobody,
 }
 
-/// How the reply to a call is made of the replies to its parts.
-#[derive(Debug, Drop)]
-pub(crate) enum ReplyRule {
-    /// It is the reply to the one part.
-    One,
-    /// As for this request, which is split by slot.
-    Split(Vec<u8>),
-    /// By this policy.
-    Several(ResponsePolicy),
-}
-
 /// Parts that wait for one thing, in the order in which they came.
 #[derive(Clone, Copy, Debug)]
 pub(crate) struct SeatList {
@@ -85,8 +73,6 @@ pub(crate) struct Targets {
 #[derive(Debug, Drop)]
 pub(crate) struct NewCall {
     pub(crate) caller: u64,
-    /// How its reply is made.
-    pub(crate) rule: ReplyRule,
     pub(crate) deadline: u64,
     /// How many bytes its request has.
     pub(crate) bytes: usize,
@@ -110,7 +96,6 @@ pub(crate) struct CallRecord {
     caller: u64,
     /// The place of its caller.
     place: usize,
-    rule: ReplyRule,
     deadline: u64,
     deadline_room: DeadlineRoom,
     /// The calls before and after it in the list of rising deadlines.

@@ -1,7 +1,7 @@
 //! The session, as its shell calls it.
 #![tactic(auto, using(crate::proofs::Leads::leads_nowhere, crate::proofs::Leads::leads_by, crate::proofs::Leads::leads_on, crate::proofs::Leads::leads_if, crate::proofs::Leads::leads_ok, crate::proofs::Leads::reports_by, crate::proofs::Leads::ends_by, crate::proofs::Leads::ends_on))]
 
-ghost use Rattle.std.specs.Prelude.{◌≡◌, ◌≢◌, ◌<◌, [], ℕ, true, false, length, Ok, Some, IfOk, OnOk, OnErr};
+ghost use Rattle.std.specs.Prelude.{◌≡◌, ◌≢◌, ◌<◌, ◌⊎◌, [], ℕ, true, false, length, Ok, Some, IfOk, IfErr, OnOk, OnErr};
 
 mod asking;
 mod replying;
@@ -9,6 +9,7 @@ mod taking;
 
 use crate::nodes::{NodeLink, Nodes};
 use crate::refusal::CallRefusal;
+use crate::rules::Rules;
 use crate::schedule::Schedule;
 use crate::session::replying::LastReply;
 use crate::settings::Settings;
@@ -24,6 +25,7 @@ use std::marker::Model;
 #[derive(Drop)]
 pub struct Session {
     pub(crate) machine: Machine,
+    pub(crate) rules: Rules,
     pub(crate) table: SlotTable,
     pub(crate) nodes: Nodes,
     pub(crate) schedule: Schedule,
@@ -58,7 +60,9 @@ impl Session {
     ghost use Rattle.session_core.specs.declared.link.Standing.TheVariants as Standing;
     ghost use Rattle.session_core.specs.LinkEvents as events;
     ghost use Rattle.session_core.specs.Channel.{Channel, to_write};
-    ghost use Rattle.redis_session.specs.SessionStates.{new_session};
+    ghost use Rattle.redis_session.specs.Refusals.{IsCallRefused};
+    ghost use Rattle.redis_session.specs.SessionStates.{names, new_session};
+    ghost use Rattle.redis_session.specs.declared.refusal.CallRefusal.TheVariants as refused;
     ghost use Rattle.redis_session.specs.Leads.{Does, Leads, Reports, Hears, HearsNot, Ends, ConnectsNot, BeginsCall, GivesUp, IsOpen};
 
     /// No links, no calls, and no slot has a node. Takes no memory.
@@ -67,6 +71,7 @@ impl Session {
     {
         Session {
             machine: Machine::new(alloc),
+            rules: Rules::new(alloc),
             table: SlotTable::new(alloc),
             nodes: Nodes::new(alloc),
             schedule: Schedule::new(alloc),
@@ -278,8 +283,10 @@ impl Session {
         request: &[u8],
         deadline: u64,
     ) -> Result<u64, CallRefusal>
-        ensures begun { IfOk result (λ call. BeginsCall caller call self.old self.new) }
+        ensures begun { IfOk result (λ call. BeginsCall caller request.now call self.old self.new) }
         ensures refused { OnErr result (self.new ≡ self.old) }
+        ensures why { IfErr result (λ refusal. (refusal ≡ refused.Limit)
+            ⊎ IsCallRefused (names self.old) self.old.added request.now refusal) }
     {
         let call = self.begin_call(alloc, caller, request, deadline)?;
         // What finds no memory now is asked in a later step.
@@ -299,6 +306,7 @@ impl Session {
         if !self.machine.give_up(call) {
             return false;
         }
+        self.rules.remove(call);
         self.schedule.drop_deadline(call);
         self.note_over(alloc, call);
         // What finds no memory now is asked in a later step.

@@ -63,7 +63,7 @@ impl Model for Machine {
 
 impl Machine {
     ghost use Rattle.session_core.specs.State as machine;
-    ghost use Rattle.session_core.specs.State.{start, CallState, Happens, On, Forget, Begin, GiveUp, End, Finish, Leave, Trim, AreApart, IsLink, IsTurn, MayAsk, MayEnd, MayFinish, MayLeave, left_call, call_at, part_at};
+    ghost use Rattle.session_core.specs.State.{start, CallState, Happens, On, Forget, Begin, GiveUp, End, Finish, Leave, Trim, AreApart, IsLink, IsTurn, MayAsk, MayEnd, MayFinish, MayLeave, left_call, begun, call_at, part_at};
 
     /// No links, no calls and no callers. Takes no memory.
     pub fn new(alloc: Global) -> Machine
@@ -194,6 +194,13 @@ impl Machine {
         true
     }
 
+    /// How many calls have begun, which is the number of the next one.
+    pub fn count_begun(&self) -> u64
+        ensures { result ≡ begun self.now }
+    {
+        self.first + self.calls.len() as u64
+    }
+
     /// Begins a call of these parts, each of which waits and has a request. Two of them have two slots, if
     /// they have any. Either each is free of the order, or none is. Returns its number.
     ///
@@ -208,7 +215,7 @@ impl Machine {
         ensures ok { IfOk result (λ call. Happens self.old (Begin call caller parts.items) self.new) }
         ensures err { OnErr result (self.new ≡ self.old) }
     {
-        let call = self.first + self.calls.len() as u64;
+        let call = self.count_begun();
         if call == u64::MAX {
             return Err(AllocError);
         }

@@ -1,7 +1,10 @@
-ghost use Rattle.std.specs.Prelude.{◌≡◌, ◌≢◌, ◌∷◌, [], Some, true, IsTrue};
+ghost use Rattle.std.specs.Prelude.{◌≡◌, ◌≢◌, ◌⊎◌, ◌∷◌, [], Some, true, IsTrue};
 ghost use Rattle.session_core.specs.State.{CallState, call_at};
 ghost use Rattle.redis_session.specs.Leads.{BeginsCall, GivesUp, Leads};
+ghost use Rattle.redis_session.specs.Refusals.{IsCallRefused};
+ghost use Rattle.redis_session.specs.SessionStates.{names};
 ghost use Rattle.redis_session.specs.declared.refusal.CallRefusal as refused;
+ghost use Rattle.redis_session.specs.declared.refusal.CallRefusal.TheVariants as refusals;
 ghost use Rattle.slotroute_c.specs.Outcomes.{code, is_one_of};
 ghost use Rattle.slotroute_c.specs.Refused.{of_refusal};
 
@@ -28,10 +31,11 @@ pub extern "C" fn slotroute_session_begin(
     call: &mut u64,
 ) -> u32
     ensures done { result ≡ code Outcome.Done
-        → BeginsCall caller call.new session.old.value session.new.value }
+        → BeginsCall caller request.now call.new session.old.value session.new.value }
     ensures refused { result ≢ code Outcome.Done → (refusal : refused.CallRefusal)
         × (result ≡ code (of_refusal refusal)) × (session.new.value ≡ session.old.value)
-        × (call.new ≡ call.old) }
+        × (call.new ≡ call.old) × ((refusal ≡ refusals.Limit)
+        ⊎ IsCallRefused (names session.old.value) session.old.value.added request.now refusal) }
 {
     match session.get_mut().begin(alloc, caller, request, deadline) {
         Ok(number) => {

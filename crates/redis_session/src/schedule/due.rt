@@ -1,6 +1,6 @@
 //! Which calls are due: those whose time is over, and those whose reply may be next.
 
-use super::{CallRecord, DeadlineRoom, NewCall, ReplyRule, Schedule};
+use super::{CallRecord, DeadlineRoom, NewCall, Schedule};
 
 impl CallRecord {
     /// A call that has just come.
@@ -13,7 +13,6 @@ impl CallRecord {
         CallRecord {
             caller: new.caller,
             place,
-            rule: new.rule,
             deadline: new.deadline,
             deadline_room: DeadlineRoom::Nowhere,
             before: None,
@@ -30,11 +29,6 @@ impl CallRecord {
     /// The number of its caller.
     pub(crate) fn caller(&self) -> u64 {
         self.caller
-    }
-
-    /// How its reply is made.
-    pub(crate) fn rule(&self) -> &ReplyRule {
-        &self.rule
     }
 
     /// Whether its time is over.

@@ -2,15 +2,17 @@
 
 ghost use Rattle.std.specs.Prelude.{◌≡◌, ◌<◌, ◌++◌, ◌∷◌, [], false, length, IfOk, OnOk};
 ghost use Rattle.redis_session.specs.Plans.{HaveOwnSlots};
-ghost use Rattle.redis_session.specs.Begins.{CanBegin, IsNewPart, has_slot};
+ghost use Rattle.redis_session.specs.Begins.{AreNewParts, CanBegin, IsErrandBy, IsNewPart, has_slot};
+ghost use Rattle.redis_session.specs.declared.plan.CallParts.TheVariants as plans;
 
 use crate::nodes::NodeLink;
 use crate::plan::{CallParts, CallPlan, SlotPart};
 use crate::refusal::CallRefusal;
-use crate::schedule::{NewCall, ReplyRule, Room, Target, Targets};
+use crate::rules::ReplyRule;
+use crate::schedule::{NewCall, Room, Target, Targets};
 use crate::session::{Session, number_of};
 use cluster_map::NodeAddress;
-use redis_routing::{Names, NodeGroup};
+use redis_routing::NodeGroup;
 use session_core::{PartOrder, Seat, Standing};
 use session_machine::Part;
 use std::alloc::{AllocError, Global};
@@ -27,13 +29,18 @@ struct Errand {
 }
 
 impl Session {
-    ghost use Rattle.std.specs.Prelude.{List, OnErr};
+    ghost use Rattle.std.specs.Prelude.{◌⊎◌, IfErr, List, OnErr};
     ghost use Rattle.session_core.specs.Part.{PartState};
     ghost use Rattle.session_core.specs.State.{Begin};
     ghost use Rattle.session_core.specs.declared.link.Standing.TheVariants.{Open};
     ghost use Rattle.session_core.specs.Channel.{Channel};
     ghost use Rattle.session_core.specs.State.{IsLink};
-    ghost use Rattle.redis_session.specs.Leads.{Does, Leads};
+    ghost use Rattle.redis_session.specs.Begins.{IsErrand};
+    ghost use Rattle.redis_session.specs.Leads.{DoesTo, Leads};
+    ghost use Rattle.redis_session.specs.Refusals.{IsCallRefused};
+    ghost use Rattle.redis_session.specs.Rules.{rule_in};
+    ghost use Rattle.redis_session.specs.SessionStates.{names};
+    ghost use Rattle.redis_session.specs.declared.refusal.CallRefusal.TheVariants as refused;
 
     /// Begins a call. Its parts are to be asked in this step.
     pub(crate) fn begin_call(
@@ -44,8 +51,11 @@ impl Session {
         deadline: u64,
     ) -> Result<u64, CallRefusal>
         ensures begun { IfOk result (λ call. (parts : List PartState)
-            × Does (Begin call caller parts) self.old self.new) }
+            × DoesTo call (Begin call caller parts) self.old self.new
+            × IsErrand (names self.old) self.old.added request.now (rule_in self.new.rules call) parts) }
         ensures refused { OnErr result (self.new ≡ self.old) }
+        ensures why { IfErr result (λ refusal. (refusal ≡ refused.Limit)
+            ⊎ IsCallRefused (names self.old) self.old.added request.now refusal) }
     {
         if !self.has_room(request.len()) {
             return Err(CallRefusal::Limit);
@@ -53,12 +63,11 @@ impl Session {
         let errand = self.errand(alloc, request)?;
         self.schedule.add_call(NewCall {
             caller,
-            rule: errand.rule,
             deadline,
             bytes: request.len(),
             targets: errand.targets,
         })?;
-        match self.machine.begin(alloc, caller, errand.parts) {
+        match self.begin_parts(alloc, caller, errand.rule, errand.parts) {
             Ok(call) => {
                 self.schedule.note_begun();
                 Ok(call)
@@ -66,6 +75,30 @@ impl Session {
             Err(_) => {
                 self.schedule.take_back();
                 Err(CallRefusal::Memory)
+            }
+        }
+    }
+
+    /// Begins a call of these parts, whose reply is made by this rule.
+    fn begin_parts(
+        &mut self,
+        alloc: Global,
+        caller: u64,
+        rule: ReplyRule,
+        parts: Vec<Part>,
+    ) -> Result<u64, AllocError>
+        requires { CanBegin parts.items }
+        ensures begun { IfOk result (λ call. DoesTo call (Begin call caller parts.items) self.old self.new
+            × (rule_in self.new.rules call ≡ rule)) }
+        ensures err { OnErr result (self.new ≡ self.old) }
+    {
+        let next = self.machine.count_begun();
+        self.rules.add(next, rule)?;
+        match self.machine.begin(alloc, caller, parts) {
+            Ok(call) => Ok(call),
+            Err(error) => {
+                self.rules.remove(next);
+                Err(error)
             }
         }
     }
@@ -79,13 +112,12 @@ impl Session {
     /// What a request asks of nodes.
     fn errand(&mut self, alloc: Global, request: &[u8]) -> Result<Errand, CallRefusal>
         ensures parts { IfOk result (λ errand. CanBegin errand.parts.items) }
+        ensures errand { IfOk result (λ errand.
+            IsErrand (names self.old) self.old.added request.now errand.rule errand.parts.items) }
+        ensures refused { IfErr result (IsCallRefused (names self.old) self.old.added request.now) }
         ensures state { self.new ≡ self.old }
     {
-        let names = Names {
-            read_only: &self.settings.read_only,
-            registry: &self.settings.registry,
-        };
-        let plan = CallPlan::new(alloc, request, names, &self.settings.added)?;
+        let plan = CallPlan::new(alloc, request, self.names(), &self.settings.added)?;
         let may_refuse = plan.may_refuse;
         match plan.parts {
             CallParts::One(order) => Ok(self.one_part(alloc, request, order, may_refuse)?),
@@ -107,7 +139,9 @@ impl Session {
         may_refuse: bool,
     ) -> Result<Errand, AllocError>
         requires { 0 < length request.now }
-        ensures { IfOk result (λ errand. CanBegin errand.parts.items) }
+        ensures begins { IfOk result (λ errand. CanBegin errand.parts.items) }
+        ensures errand { IfOk result (λ errand.
+            IsErrandBy request.now may_refuse (plans.One order) errand.rule errand.parts.items) }
     {
         let mut errand = Errand::new(alloc, ReplyRule::One);
         let target = match order {
@@ -127,7 +161,9 @@ impl Session {
         may_refuse: bool,
     ) -> Result<Errand, AllocError>
         requires { HaveOwnSlots slots.items }
-        ensures { IfOk result (λ errand. CanBegin errand.parts.items) }
+        ensures begins { IfOk result (λ errand. CanBegin errand.parts.items) }
+        ensures errand { IfOk result (λ errand.
+            IsErrandBy request.now may_refuse (plans.Split slots) errand.rule errand.parts.items) }
     {
         let retries = self.settings.retries;
         let mut errand = Errand::new(alloc, ReplyRule::Split(request.to_vec(alloc)?));
@@ -140,7 +176,7 @@ impl Session {
         Ok(errand)
     }
 
-    /// The request as it came for each of the nodes. If there are none, it waits for one.
+    /// The request as it came for each of the targets.
     fn several_parts(
         &self,
         alloc: Global,
@@ -152,14 +188,13 @@ impl Session {
     ) -> Result<Errand, AllocError>
         requires some { 0 < length request.now }
         requires order { has_slot order ≡ false }
-        ensures { IfOk result (λ errand. CanBegin errand.parts.items) }
+        requires targets { 0 < length targets.items }
+        ensures begins { IfOk result (λ errand. CanBegin errand.parts.items) }
+        ensures rule { IfOk result (λ errand. errand.rule ≡ rule) }
+        ensures one { IfOk result (λ errand. 0 < length errand.parts.items) }
+        ensures each { IfOk result (λ errand. AreNewParts request.now order may_refuse errand.parts.items) }
     {
         let mut errand = Errand::new(alloc, rule);
-        if targets.is_empty() {
-            let part = self.part(alloc, request, order, may_refuse)?;
-            errand.push(part, Target::Nobody)?;
-            return Ok(errand);
-        }
         for target in targets {
             let part = self.part(alloc, request, order, may_refuse)?;
             errand.push(part, target)?;
@@ -175,15 +210,17 @@ impl Session {
         order: PartOrder,
         may_refuse: bool,
     ) -> Result<Part, AllocError>
-        ensures { IfOk result (IsNewPart request.now order) }
+        ensures { IfOk result (IsNewPart request.now order may_refuse) }
     {
         let request = request.to_vec(alloc)?;
         Ok(Part::new(request, order, may_refuse, self.settings.retries))
     }
 
-    /// The nodes of a group, by the map. Those that are not known are added.
+    /// The nodes of a group, by the map. Those that are not known are added. If there are none, the request waits for
+    /// one.
     fn group(&mut self, alloc: Global, group: NodeGroup) -> Result<Vec<Target>, AllocError>
-        ensures { self.new ≡ self.old }
+        ensures one { IfOk result (λ targets. 0 < length targets.items) }
+        ensures state { self.new ≡ self.old }
     {
         let mut targets = Vec::new(alloc);
         for address in self.table.group(alloc, group)? {
@@ -195,6 +232,9 @@ impl Session {
                 None => Target::Nobody,
             };
             targets.push(target)?;
+        }
+        if targets.is_empty() {
+            targets.push(Target::Nobody)?;
         }
         Ok(targets)
     }
@@ -424,7 +464,8 @@ impl Session {
 impl Errand {
     /// Nothing is asked yet.
     fn new(alloc: Global, rule: ReplyRule) -> Errand
-        ensures { result.parts.items ≡ [] }
+        ensures rule { result.rule ≡ rule }
+        ensures none { result.parts.items ≡ [] }
     {
         Errand {
             rule,
@@ -435,7 +476,8 @@ impl Errand {
 
     /// Adds a part and where it is asked.
     fn push(&mut self, part: Part, target: Target) -> Result<(), AllocError>
-        ensures { OnOk result (self.new.parts.items ≡ self.old.parts.items ++ part ∷ []) }
+        ensures rule { self.new.rule ≡ self.old.rule }
+        ensures part { OnOk result (self.new.parts.items ≡ self.old.parts.items ++ part ∷ []) }
     {
         self.parts.push(part)?;
         self.targets.push(target)?;

@@ -8,7 +8,7 @@ ghost use Rattle.redis_session.specs.SessionStates.{answer_of, bytes_of, given_o
 ghost use Rattle.redis_session.specs.Told.{unfit_reply};
 
 use crate::reply::split_reply;
-use crate::schedule::ReplyRule;
+use crate::rules::ReplyRule;
 use crate::session::Session;
 use crate::told::{Effect, ErrorCause, PartFate, effect_of, error_reply, no_tries_reply};
 use redis_bytes::{AnswersFault, BytesFault, combine_answers};
@@ -62,9 +62,9 @@ impl Session {
     ghost use Rattle.session_core.specs.State.{CallState};
     ghost use Rattle.redis_routing.specs.Names.{names_in};
     ghost use Rattle.redis_session.specs.CallReplies.{IsReplyTo, IsSplitReply};
+    ghost use Rattle.redis_session.specs.Rules.{rule_in};
     ghost use Rattle.redis_session.specs.SessionStates.{last_reply, names, without_reply};
     ghost use Rattle.redis_session.specs.Leads.{Finishes, GivesReply, Leads};
-    ghost use Rattle.redis_session.specs.declared.schedule.ReplyRule.{ReplyRule as Rule};
 
     /// The caller and the call of the next reply, if one is there. [`Session::reply`] has its bytes up to the next
     /// call of this function.
@@ -155,6 +155,7 @@ impl Session {
         if !self.machine.finish(call) {
             return Ok(None);
         }
+        self.rules.remove(call);
         self.schedule.drop_deadline(call);
         self.reply = reply;
         Ok(Some(call))
@@ -163,7 +164,7 @@ impl Session {
     /// The reply to a call whose parts are as they are.
     fn reply_of(&self, alloc: Global, call: u64) -> Result<LastReply, AllocError>
         ensures { IfOk result (λ reply. (state : CallState) → call_at call self.entry.now.machine ≡ Some state
-            → (rule : Rule) × IsReplyTo (names self.entry.now) rule state.parts
+            → IsReplyTo (names self.entry.now) (rule_in self.entry.now.rules call) state.parts
             (bytes_of (given_of reply) self.entry.now.machine)) }
     {
         let Some(state) = self.machine.call(call) else {
@@ -172,21 +173,13 @@ impl Session {
         if let Some(part) = first_unanswered(state) {
             return fault_reply(alloc, call, state, part);
         }
-        let Some(rule) = self.rule_of(call) else {
+        let Some(rule) = self.rules.get(call) else {
             return Ok(only_reply(call, state));
         };
         match rule {
             ReplyRule::One => Ok(only_reply(call, state)),
             ReplyRule::Split(request) => self.split_reply(alloc, call, request, state),
             ReplyRule::Several(policy) => several_reply(alloc, call, *policy, state),
-        }
-    }
-
-    /// How the reply to a call is made.
-    fn rule_of(&self, call: u64) -> Option<&ReplyRule> {
-        match self.schedule.call(call) {
-            Some(record) => Some(record.rule()),
-            None => None,
         }
     }
 
@@ -211,7 +204,8 @@ impl Session {
         }
     }
 
-    fn names(&self) -> Names<'_>
+    /// The names that it was told of when it began.
+    pub(crate) fn names(&self) -> Names<'_>
         ensures { names_in result ≡ names self.entry.now }
     {
         Names {

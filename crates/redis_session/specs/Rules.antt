@@ -1,0 +1,27 @@
+-- How the replies to calls are made.
+use Rattle.std.specs.Prelude.{◌≡◌, ◌≢◌, ℕ, List, Option, None, Some}
+use Rattle.std.specs.BTreeMap.{is_at}
+use Rattle.std.specs.Map.{lookup, remove_entry}
+use Rattle.std.specs.Ordering.{nat_cmp}
+use Rattle.redis_session.specs.declared.rules.ReplyRule.{ReplyRule}
+use Rattle.redis_session.specs.declared.rules.ReplyRule.TheVariants.{One}
+
+-- the rules that are kept, by the numbers of their calls
+abbrev pub KeptRules : Type 0
+KeptRules = List (ℕ × ReplyRule)
+
+-- the rule of a call: `One`, if none is kept
+abbrev pub rule_or_one : Option ReplyRule → ReplyRule
+rule_or_one None = One
+rule_or_one (Some rule) = rule
+
+abbrev pub rule_in : KeptRules → ℕ → ReplyRule
+rule_in kept call = rule_or_one (lookup (is_at (nat_cmp call)) kept)
+
+-- what is kept once that of a call is forgotten
+abbrev pub without : ℕ → KeptRules → KeptRules
+without call kept = remove_entry (is_at (nat_cmp call)) kept
+
+-- each other call has the rule that it had
+abbrev pub KeepOthers : ℕ → KeptRules → KeptRules → Type 0
+KeepOthers call old new = (other : ℕ) → other ≢ call → rule_in new other ≡ rule_in old other
