@@ -119,6 +119,10 @@ left_in q place (Asked link) bars h ne = h
 left_in q place Settled bars h ne = without_in q place bars (ne refl) h
 left_in q place Unsent bars h ne = without_in q place bars (ne refl) h
 
+pub none_left : (place : ℕ) (s : Status) (bars : List ℕ) → length bars ≡ 0 → bars ≡ left place s bars
+none_left place s [] none = elim (bool_cases (is_done s)) [ inl done ↦ rw done refl | inr undone ↦ rw undone refl ]
+none_left place s (x ∷ xs) none = absurd (omega arith)
+
 ascends_left : (place : ℕ) (s : Status) (bars : List ℕ) → Ascends bars → Ascends (left place s bars)
 ascends_left place Waits bars a = a
 ascends_left place (Asked link) bars a = a

@@ -211,6 +211,9 @@ fn leave_bars(bars: &mut VecDeque<u64>, place: u64, status: Status)
     requires { Ascends bars.old.items }
     ensures { bars.new.items ≡ left place status bars.old.items }
 {
+    if bars.is_empty() {
+        return;
+    }
     if status.is_done() {
         take_place(bars, place);
     }
