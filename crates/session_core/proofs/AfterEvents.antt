@@ -108,9 +108,9 @@ pub record Vanishes (call : ℕ) (s : State) (old : CallState) (new : Option Cal
 abbrev Outcome : Event → ℕ → State → CallState → Option CallState → Type 0
 Outcome e call s c o = ((d : CallState) × (o ≡ Some d) × Goes e call c d) ⊎ Vanishes call s c o
 
-changed : (f : ℕ → CallState → CallState) (s : State) (links : List (Option Channel)) (call : ℕ) (c : CallState) → call_at call s ≡ Some c
+pub changed_call : (f : ℕ → CallState → CallState) (s : State) (links : List (Option Channel)) (call : ℕ) (c : CallState) → call_at call s ≡ Some c
     → call_at call (record { links = links; first = s.first; calls = numbered f s.first s.calls }) ≡ Some (f call c)
-changed f s links call c e =
+changed_call f s links call c e =
     let h = not_forgotten call s c e in
     let n : s.first + (call - s.first) ≡ call = omega (arith, h) in
     call_is call (record { links = links; first = s.first; calls = numbered f s.first s.calls }) h
@@ -162,7 +162,7 @@ same_call a b e = cc
 
 left_at : (m call : ℕ) (s : State) (c : CallState) → call_at call s ≡ Some c → (may : May (Leave m) s) → Outcome (Leave m) call s c (call_at call (after (Leave m) s))
 left_at m call s c e may =
-    let is = changed (call_after (Leave m)) s (after (Leave m) s).links call c e in
+    let is = changed_call (call_after (Leave m)) s (after (Leave m) s).links call c e in
     by_test (eqb m call)
     (λ k.
     let same : m ≡ call = eqb-true m call k in
@@ -209,7 +209,7 @@ pub call_goes : (e : Event) (call : ℕ) (s : State) (c : CallState) → May e s
 call_goes (Begin n caller parts) call s c may e = inl (c, begun_at n caller parts call s c e, goes_same (Begin n caller parts) call c (λ q p. refl) refl)
 call_goes (Leave n) call s c may e = left_at n call s c e may
 call_goes Trim call s c may e = trimmed_at call s c e may
-call_goes e call s c may is = inl (_, changed (call_after e) s (after e s).links call c is, goes_all e call c _ refl)
+call_goes e call s c may is = inl (_, changed_call (call_after e) s (after e s).links call c is, goes_all e call c _ refl)
 
 -- a call that begins
 pub begins : (call caller : ℕ) (parts : List PartState) (s : State) → call ≡ begun s → call_at call (after (Begin call caller parts) s) ≡ Some (record { caller = caller; parts = parts; is_wanted = true })

@@ -20,16 +20,16 @@ pub record IsWanted (s : State) (caller call : ℕ) : Type 0 where
   pub wanted : state.is_wanted ≡ true
   pub caller_is : state.caller ≡ caller
 
-stays : (b : Bool) → not b ≡ true → b ≡ false
-stays true h = absurd (false≢true h)
-stays false h = refl
+pub not_true : (b : Bool) → not b ≡ true → b ≡ false
+not_true true h = absurd (false≢true h)
+not_true false h = refl
 
 wanted_before : (e : Event) (s : State) (caller call : ℕ) → May e s → call < begun s → IsWanted (after e s) caller call → IsWanted s caller call × (unwants call e ≡ false)
 wanted_before e s caller call may bound w = elim (call_came e call s w.state may bound w.call_is) [
   | inl c ↦
       let both : (c.0.is_wanted && not (unwants call e)) ≡ true = sym c.2.wanted ∙ w.wanted in (
         record { state = c.0; call_is = c.1; wanted = and_first _ _ both; caller_is = sym c.2.caller ∙ w.caller_is },
-        stays (unwants call e) (and_second _ _ both),
+        not_true (unwants call e) (and_second _ _ both),
       )
   | inr left ↦ absurd (false≢true (sym (ap (λ (x : CallState). x.is_wanted) left) ∙ w.wanted))
 ]

@@ -6,11 +6,11 @@ use Rattle.resp_core.proofs.Cases.{by_test}
 use Rattle.session_core.specs.Order.{Order}
 use Rattle.session_core.specs.Part.{PartState}
 use Rattle.session_core.specs.State.{CallState, State, Leave, Trim, call_at, call_after, left_call, Has, May, after}
-use Rattle.session_core.proofs.AfterEvents.{call_is, not_forgotten, same_call}
+use Rattle.session_core.proofs.AfterEvents.{changed_call, call_is, not_forgotten, same_call}
 use Rattle.session_core.proofs.PlaceLists.{get_first_dropped}
 use Rattle.session_machine.specs.Ties.{AreTied, OrderGoes, keeps, is_ordered}
 use Rattle.session_machine.proofs.Ties.Goes.{goes_same}
-use Rattle.session_machine.proofs.Ties.Tied.{AreLeft, changed_call, tied_step}
+use Rattle.session_machine.proofs.Ties.Tied.{AreLeft, tied_step}
 use Rattle.session_machine.proofs.Ties.GiveUps.{part_within}
 
 -- Each part of this call that is ordered was forgotten in the order of its caller.

@@ -7,6 +7,7 @@ use Rattle.resp_core.proofs.Cases.{and_first, and_second}
 use Rattle.session_core.specs.Part.{PartState}
 use Rattle.session_core.specs.State.{CallState, State, Event, Begin, GiveUp, Finish, IsTurn, start, begun, call_at, unwants, May, after}
 use Rattle.session_core.proofs.AfterEvents.{has_begun, not_begun, new_calls, begun_after, call_goes, call_came, call_new, begins, same_call}
+use Rattle.session_core.proofs.Turns.{not_true}
 use Rattle.session_machine.specs.Ties.{AreOwed, IsFirstOwed, is_owed, no_owed}
 use Rattle.session_machine.proofs.Numbers.{other_number, other_key}
 
@@ -19,17 +20,13 @@ pub record IsHeld (s : State) (caller call : ℕ) : Type 0 where
   pub caller_is : state.caller ≡ caller
   pub wanted : state.is_wanted ≡ true
 
-kept_wanted : (b : Bool) → not b ≡ true → b ≡ false
-kept_wanted true h = absurd (false≢true h)
-kept_wanted false h = refl
-
 -- a call that is wanted after an event which begins none was wanted before
 pub held_before : {s : State} {caller call : ℕ} (e : Event) → May e s → call < begun s → IsHeld (after e s) caller call → IsHeld s caller call × (unwants call e ≡ false)
 held_before {s = s} {call = call} e may bound w = elim (call_came e call s w.state may bound w.call_is) [
   | inl c ↦
       let both : (c.0.is_wanted && not (unwants call e)) ≡ true = sym c.2.wanted ∙ w.wanted in (
         record { state = c.0; call_is = c.1; caller_is = sym c.2.caller ∙ w.caller_is; wanted = and_first _ _ both },
-        kept_wanted (unwants call e) (and_second _ _ both),
+        not_true (unwants call e) (and_second _ _ both),
       )
   | inr left ↦ absurd (false≢true (sym (ap (λ (x : CallState). x.is_wanted) left) ∙ w.wanted))
 ]

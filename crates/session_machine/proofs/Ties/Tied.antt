@@ -1,18 +1,17 @@
 -- Orders stay tied to the state of the session, if they go on as its parts do.
-use Rattle.std.proofs.Common.{◌≡◌, ◌≢◌, ◌<◌, ◌≤◌, ◌+◌, ◌-◌, inl, inr, ℕ, Bool, true, false, eqb, if◌then◌else◌, List, [], Option, None, Some, refl, sym, ap, ◌∙◌, subst, arith}
+use Rattle.std.proofs.Common.{◌≡◌, ◌≢◌, ◌<◌, ◌≤◌, ◌+◌, inl, inr, ℕ, Bool, true, false, eqb, if◌then◌else◌, [], None, Some, refl, sym, ap, ◌∙◌, subst, arith}
 use Rattle.std.specs.List.{slice_get}
 use Rattle.std.specs.Option.{option_map}
 use Rattle.std.proofs.lemmas.Option.{same_Some}
 use Rattle.std.proofs.lemmas.Bool.{false≢true, eq-eqb, cases_lt, cases_eq, cases_order}
 use Rattle.std.proofs.lemmas.Bool.Decides.{nat_tests}
-use Rattle.session_core.specs.Channel.{Channel}
 use Rattle.session_core.specs.declared.ordered_part.OrderedPart.{OrderedPart}
 use Rattle.session_core.specs.declared.ordered_part.Status.{Status}
 use Rattle.session_core.specs.Order.{Order, no_order, ordered_at, is_done}
 use Rattle.session_core.specs.Part.{PartState}
 use Rattle.session_core.specs.Part.{is_done as part_done}
 use Rattle.session_core.specs.State.{CallState, State, Event, Begin, Leave, Trim, start, begun, call_at, numbered, call_after, phase_after, Has, May, after}
-use Rattle.session_core.proofs.AfterEvents.{in_phase, seen, slice_get-numbered, call_is, not_forgotten, has_begun, not_begun, new_calls, begun_after, call_came, same_call}
+use Rattle.session_core.proofs.AfterEvents.{in_phase, seen, slice_get-numbered, changed_call, has_begun, not_begun, new_calls, begun_after, call_came, same_call}
 use Rattle.session_core.proofs.Waiting.{same_part}
 use Rattle.session_core.proofs.Places.{at_within, none_at}
 use Rattle.session_machine.specs.Ties.{AreTied, OrderGoes, IsSteady, restated, keeps, gets, status_of, is_ordered, ordered_part}
@@ -47,16 +46,6 @@ part_came {e = e} {s = s} {caller = caller} {call = call} {part = part} {now = n
 -- A part that is there is there after the event.
 abbrev pub Stays : (e : Event) (s : State) (caller call part : ℕ) (p : PartState) → Has s caller call part p → Type 0
 Stays e s caller call part p has = Has (after e s) caller call part (in_phase p (phase_after call part e has.state.is_wanted p))
-
-pub changed_call : (f : ℕ → CallState → CallState) (s : State) (links : List (Option Channel)) (call : ℕ) (c : CallState) → call_at call s ≡ Some c
-    → call_at call (record { links = links; first = s.first; calls = numbered f s.first s.calls }) ≡ Some (f call c)
-changed_call f s links call c e =
-    let h = not_forgotten call s c e in
-    let n : s.first + (call - s.first) ≡ call = omega (arith, h) in
-    call_is call (record { links = links; first = s.first; calls = numbered f s.first s.calls }) h
-    ∙ slice_get-numbered f s.first s.calls (call - s.first)
-    ∙ ap (λ m. option_map (f m) (slice_get s.calls (call - s.first))) n
-    ∙ ap (option_map (f call)) (sym (call_is call s h) ∙ e)
 
 phased_part : (e : Event) (call part : ℕ) (state : CallState) (p : PartState) → slice_get state.parts part ≡ Some p
     → slice_get (numbered (λ n x. in_phase x (phase_after call n e state.is_wanted x)) 0 state.parts) part ≡ Some (in_phase p (phase_after call part e state.is_wanted p))
