@@ -25,9 +25,9 @@ use std::marker::Model;
 /// A part may be asked if it waits, each part of an earlier call with which it has an order is done or
 /// goes ahead of it on the same link, and no such part of a later call is on its way or settled.
 ///
-/// A call takes a time that grows with the logarithm of the number of parts, averaged over the calls, if
-/// the parts of a slot are refused or settled in the order in which they were asked. A part that becomes
-/// unsent between others that wait also moves up to half of their places by one.
+/// A call takes a time that grows with the logarithm of the number of parts, averaged over the calls. This
+/// assumes that the parts of a slot are refused or settled in the order in which they were asked. A part
+/// that becomes unsent between others that wait also moves up to half of their places by one.
 #[derive(Drop)]
 pub struct CallerOrder {
     parts: OrderedParts,

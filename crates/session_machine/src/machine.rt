@@ -34,8 +34,8 @@ use std::marker::Model;
 ///
 /// A call of a function takes a time that grows with the logarithm of the number of callers and of parts
 /// of one caller, and with the number of parts of the call, averaged over the calls. It does not grow with
-/// the number of links or of calls. If a part is ended or given up, and other parts of its caller and slot
-/// wait before and after it, up to half of their places also move by one.
+/// the number of links or of calls. A part may be ended while others of its caller and slot wait before and
+/// after it. Then up to half of their places also move by one.
 #[derive(Drop)]
 pub struct Machine {
     links: Links,
