@@ -135,22 +135,17 @@ bool layer_redirect(const uint8_t *error, size_t len, const char *answering, red
     return true;
 }
 
-enum { CURSOR_BITS = 48 }; /* of a cursor, and above these the number of its node */
-
 bool layer_scan_position(uint64_t cursor, uint32_t nodes, uint32_t *node, uint64_t *node_cursor) {
-    if (cursor >> CURSOR_BITS >= nodes)
+    slotroute_position position;
+    if (slotroute_cursor_position(cursor, nodes, &position) != SLOTROUTE_DONE)
         return false;
-    *node = (uint32_t)(cursor >> CURSOR_BITS);
-    *node_cursor = cursor & ((1ULL << CURSOR_BITS) - 1);
+    *node = (uint32_t)position.node;
+    *node_cursor = position.cursor;
     return true;
 }
 
 bool layer_next_cursor(uint32_t node, uint64_t node_cursor, uint32_t nodes, uint64_t *cursor) {
-    if (node >= nodes || node_cursor >> CURSOR_BITS != 0)
-        return false;
-    uint64_t next = node_cursor != 0 ? node : node + 1ULL;
-    *cursor = next == nodes ? 0 : next << CURSOR_BITS | node_cursor;
-    return true;
+    return slotroute_next_cursor(nodes, node, node_cursor, cursor) == SLOTROUTE_DONE;
 }
 
 void layer_message(uint32_t answer, char *text, size_t room) {
