@@ -112,17 +112,16 @@ static void begin(char *line) {
 }
 
 /* Begins the calls of further lines, many at once. Returns whether there may be more lines. */
-static int begin_lines(void) {
-    static struct { char *text; size_t size; } line;
-    if (awaited > MOST_AWAITED / 2) return 1;
-    for (; awaited < MOST_AWAITED; begin(line.text))
-        if (getline(&line.text, &line.size, stdin) <= 0) return 0;
+static int begin_lines(char **line, size_t *size) {
+    for (; awaited < MOST_AWAITED; begin(*line))
+        if (getline(line, size, stdin) <= 0) return 0;
     return 1;
 }
 
 int main(int count, char **nodes) {
     slotroute_session_settings settings = {1 << 29, 100000, 1 << 30, 10000, 100, 100};
-    size_t node, link;
+    size_t node, link, size = 0;
+    char *line = NULL;
     if (slotroute_session_open(&settings, NULL, 0, &session) != SLOTROUTE_DONE) return 1;
     for (size_t i = 0; i < LINKS; i++) sockets[i] = -1;
     for (int i = 1; i < count; i++) {
@@ -131,7 +130,7 @@ int main(int count, char **nodes) {
         slotroute_session_add_node(&session, (uint8_t *)nodes[i], (size_t)(colon - nodes[i]),
                                    (uint16_t)atoi(colon + 1), &node);
     }
-    while (begin_lines() || awaited > 0) {
+    while (awaited > MOST_AWAITED / 2 || begin_lines(&line, &size) || awaited > 0) {
         struct pollfd polled[LINKS];
         slotroute_session_advance(&session, now());
         connect_wanted();
@@ -146,5 +145,6 @@ int main(int count, char **nodes) {
         print_replies();
     }
     slotroute_session_close(session);
+    free(line);
     return 0;
 }
