@@ -97,10 +97,10 @@ class Client:
         return int(rest) if mark == b":" else line.decode()
 
 
-def primaries():
-    """The port of each slot's primary."""
+def primaries(port=PORT + 3):
+    """The port of each slot's primary, as the node of a port knows it."""
     found = {}
-    for first, last, primary, *_ in Client(PORT + 3).ask("CLUSTER", "SLOTS"):
+    for first, last, primary, *_ in Client(port).ask("CLUSTER", "SLOTS"):
         found |= dict.fromkeys(range(first, last + 1), primary[1])
     return found
 

@@ -120,8 +120,17 @@ def use(users, meanwhile):
     return seen, wrong
 
 
+def knows(port, slot, owner):
+    """Whether the node of a port, if it is alive, knows the primary of a slot."""
+    try:
+        return primaries(port).get(slot) == owner
+    except OSError:
+        return True
+
+
 def move_slots(over):
-    """Moves the slots of five tags to and fro until the users end."""
+    """Moves the slots of five tags to and fro until the users end. A node that knows an earlier owner could have
+    the new one drop its keys, so each has to know of a move before the next one."""
     rng, names, moved, old_maps = random.Random(1), {}, 0, 0
     for port in set(primaries().values()):
         names[port] = Client(port).ask("CLUSTER", "MYID")
@@ -139,6 +148,7 @@ def move_slots(over):
             at_old.ask("MIGRATE", "127.0.0.1", new, "", "0", "5000", "KEYS", *keys)
         for node in (at_new, at_old):
             node.ask("CLUSTER", "SETSLOT", slot, "NODE", names[new])
+        until(5, lambda: all(knows(port, slot, new) for port in names))
         moved += 1
     print(f"slots moved {moved} times, and {old_maps} times the map was an old one")
 
