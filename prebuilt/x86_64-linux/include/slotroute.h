@@ -29,7 +29,7 @@
 #include <stddef.h>
 #include <stdint.h>
 
-#define SLOTROUTE_VERSION "0.2.0"
+#define SLOTROUTE_VERSION "0.2.1"
 
 #ifdef __cplusplus
 extern "C" {
@@ -75,7 +75,7 @@ typedef struct slotroute_told {
 /* The length of the text of a code. The text is written if it fits, with no 0 at its end. */
 size_t slotroute_message(uint32_t answer, uint8_t *text, size_t text_len);
 
-/* The version of the library that is linked, as a number: 200 for 0.2.0, 10203 for 1.2.3. */
+/* The version of the library that is linked, as a number: 201 for 0.2.1, 10203 for 1.2.3. */
 uint32_t slotroute_version(void);
 
 /* The slot of a key, 0 to 16383. */
@@ -180,6 +180,21 @@ uint32_t slotroute_combine(const uint8_t *request, size_t request_len,
 uint32_t slotroute_combine_answers(uint32_t policy, size_t count,
                                    const uint8_t *replies, size_t replies_len,
                                    uint8_t *out, size_t out_len, slotroute_told *told);
+
+/* Where a SCAN over several nodes stands: the next call goes to this node, with this cursor. */
+typedef struct slotroute_position {
+    uint64_t node; /* its index, counted from 0 */
+    uint64_t cursor;
+} slotroute_position;
+
+/* Writes where a client's cursor of SCAN stands, over so many nodes. SCAN 0 begins at node 0.
+ * SLOTROUTE_NOT_THERE: the cursor names a node that is not there. */
+uint32_t slotroute_cursor_position(uint64_t cursor, uint64_t nodes, slotroute_position *position);
+
+/* Writes the cursor for the client, after one of so many nodes replied cursor. A node's 0 is followed
+ * by the next node. The last one's is followed by 0: the scan ended. All are below 2^63.
+ * SLOTROUTE_NOT_THERE: there is no such node, or more than 32768 nodes, or cursor is 2^48 or more. */
+uint32_t slotroute_next_cursor(uint64_t nodes, uint64_t node, uint64_t cursor, uint64_t *next);
 
 #define SLOTROUTE_SLOTS 16384u
 #define SLOTROUTE_NO_NODE 65535u
@@ -323,7 +338,8 @@ uint32_t slotroute_session_give_up(slotroute_session *session, uint64_t call);
 uint32_t slotroute_session_advance(slotroute_session *session, uint64_t now);
 
 /* Writes the time at which slotroute_session_advance is to be called next to time: at once if it is not after
- * the last one. SLOTROUTE_NOT_THERE: nothing waits for a time. */
+ * the last one. What could not be asked or given, since memory ran out, is tried again after a pause.
+ * SLOTROUTE_NOT_THERE: nothing waits for a time. */
 uint32_t slotroute_session_next_time(slotroute_session *session, uint64_t *time);
 
 /* Whose reply comes next. */
