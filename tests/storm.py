@@ -50,8 +50,9 @@ class Judge:
 
 def rage(nodes, callers, rng):
     """Has slots move, links end after any byte, and half of six nodes end, for a second or two. It begins once
-    each caller has begun."""
-    while len(nodes.values) < callers:
+    each caller has written its key, or after half a minute."""
+    until = time.monotonic() + 30
+    while not all(b"key:%d" % it in nodes.values for it in range(callers)) and time.monotonic() < until:
         time.sleep(0.01)
     for index in range(3):
         for _ in range(40):
