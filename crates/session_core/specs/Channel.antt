@@ -28,15 +28,8 @@ written c = c.given - length c.unwritten
 
 -- a new connection
 abbrev pub fresh : ℕ → Channel
-fresh most = record {
-  waits = [];
-  given = 0;
-  unwritten = [];
-  heard = [];
-  written_before = [];
-  standing = Open;
-  most = most;
-}
+fresh most =
+    record { waits = []; given = 0; unwritten = []; heard = []; written_before = []; standing = Open; most = most }
 
 -- what is to be written: on a link that is broken or ended, nothing
 abbrev pub to_write : Standing → List ℕ → List ℕ

@@ -73,14 +73,10 @@ May (Lose ticket begun) c = IsLost c ticket begun
 
 -- the link after this
 abbrev pub after : Event → Channel → Channel
-after (Put asks) c = record {
+after (Put asks) c = record c {
   waits = c.waits ++ placed c.given asks;
   given = c.given + length (bytes_of asks);
   unwritten = c.unwritten ++ bytes_of asks;
-  heard = c.heard;
-  written_before = c.written_before;
-  standing = c.standing;
-  most = c.most;
 }
 after (Write count) c = record c { unwritten = drop count c.unwritten }
 after (Hear bytes) c = record c {

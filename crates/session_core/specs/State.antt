@@ -117,10 +117,8 @@ unwants call other = false
 
 abbrev pub call_after : Event → ℕ → CallState → CallState
 call_after (Leave c) call state = if c == call then left_call else state
-call_after event call state = record {
-  caller = state.caller;
-  parts = numbered (λ part p. record p { phase = phase_after call part event state.is_wanted p }) 0
-      state.parts;
+call_after event call state = record state {
+  parts = numbered (λ part p. record p { phase = phase_after call part event state.is_wanted p }) 0 state.parts;
   is_wanted = state.is_wanted && not (unwants call event);
 }
 
@@ -139,9 +137,8 @@ abbrev pub after : Event → State → State
 after (Begin call caller parts) s =
     record s { calls = s.calls ++ record { caller = caller; parts = parts; is_wanted = true } ∷ [] }
 after Trim s = record s { first = s.first + 1; calls = drop 1 s.calls }
-after event s = record {
+after event s = record s {
   links = numbered (link_after event) 0 (links_for event s.links);
-  first = s.first;
   calls = numbered (call_after event) s.first s.calls;
 }
 
@@ -248,8 +245,7 @@ May (On number event) s = MayOn number event s
 -- the link ended, and nobody waits on it
 May (Forget number) s = (c : Channel) × IsLink s number c × (c.standing ≡ Ended) × (c.waits ≡ [])
 -- the number is the next one, and each part waits, one for each slot
-May (Begin call caller parts) s = (call ≡ begun s)
-    × (list_all (λ p. is_waiting p.phase) parts ≡ true) × AreApart parts
+May (Begin call caller parts) s = (call ≡ begun s) × (list_all (λ p. is_waiting p.phase) parts ≡ true) × AreApart parts
 -- the call has begun
 May (GiveUp call) s = call < begun s
 -- the part waits, and has this cause

@@ -54,6 +54,18 @@ impl CallerOrder {
         }
     }
 
+    /// Makes it a caller without calls. It keeps its memory, for another caller.
+    pub fn clear(&mut self)
+        ensures { self.new ≡ no_order }
+    {
+        self.parts.clear();
+    }
+
+    /// Whether it has room for few parts at most.
+    pub fn is_small(&self) -> bool {
+        self.parts.is_small()
+    }
+
     /// The place of the next part that joins.
     pub fn end(&self) -> u64
         ensures { result ≡ self.now.first + length self.now.parts }

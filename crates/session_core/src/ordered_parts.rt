@@ -10,8 +10,8 @@ ghost use Rattle.session_core.specs.Inner.Lane.{Ascends};
 ghost use Rattle.session_core.specs.Inner.Tied.{IsSorted, IsBar, IsFirstBar, MayChange, entered, left, without_first, without_last, pushed, MayFollow, IsFirstOver, IsLastOpen};
 
 use crate::lanes;
-use crate::lanes::Lanes;
-use crate::ordered_part::{Askable, OrderedPart, Overtaken, Seat, Status};
+use crate::lanes::{Lanes, SpareLane};
+use crate::ordered_part::{Askable, FEW, OrderedPart, Overtaken, Seat, Status};
 use crate::part::PartOrder;
 use crate::sorted_places::take_place;
 use std::alloc::{AllocError, Global};
@@ -25,6 +25,7 @@ pub(crate) struct OrderedParts {
     first: u64,
     parts: VecDeque<OrderedPart>,
     lanes: Lanes,
+    spare: SpareLane,
     /// The places of the parts without a slot that are not done.
     bars: VecDeque<u64>,
 }
@@ -48,8 +49,24 @@ impl OrderedParts {
             first: 0,
             parts: VecDeque::new(alloc),
             lanes: BTreeMap::new(alloc),
+            spare: None,
             bars: VecDeque::new(alloc),
         }
+    }
+
+    /// Makes it a caller without calls. It keeps its memory.
+    pub(crate) fn clear(&mut self)
+        ensures { self.new ≡ no_order }
+    {
+        self.first = 0;
+        self.parts.clear();
+        lanes::clear(&mut self.lanes);
+        self.bars.clear();
+    }
+
+    /// Whether it has room for few parts at most.
+    pub(crate) fn is_small(&self) -> bool {
+        self.parts.capacity() <= FEW && self.bars.capacity() <= FEW
     }
 
     /// The place of the first part that is left, or of the next one.
@@ -103,7 +120,7 @@ impl OrderedParts {
         }
         self.parts.reserve(1)?;
         enter_bars(&mut self.bars, order, place)?;
-        lanes::join(alloc, &mut self.lanes, order, place)?;
+        lanes::join(alloc, &mut self.lanes, &mut self.spare, order, place)?;
         let status = Status::Waits;
         self.parts.push_back_reserved(OrderedPart {
             seat,
@@ -121,7 +138,13 @@ impl OrderedParts {
         let last = self.parts.len() - 1;
         let order = self.parts[last].order;
         let place = self.first + last as u64;
-        lanes::change(&mut self.lanes, order, place, Status::Unsent);
+        lanes::change(
+            &mut self.lanes,
+            &mut self.spare,
+            order,
+            place,
+            Status::Unsent,
+        );
         leave_bars(&mut self.bars, place, Status::Unsent);
         self.parts.truncate(last);
     }
@@ -134,7 +157,7 @@ impl OrderedParts {
     {
         let index = (place - self.first) as usize;
         let order = self.parts[index].order;
-        lanes::change(&mut self.lanes, order, place, status);
+        lanes::change(&mut self.lanes, &mut self.spare, order, place, status);
         leave_bars(&mut self.bars, place, status);
         mark(&mut self.parts, index, status);
     }

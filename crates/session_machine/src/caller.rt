@@ -42,6 +42,23 @@ impl Caller {
         }
     }
 
+    /// Makes it a caller without calls. It keeps its memory, for another caller.
+    pub(crate) fn clear(&mut self)
+        ensures { self.new ≡ no_calls }
+    {
+        self.order.clear();
+        // A set that is empty keeps its memory, which its own `clear` would free.
+        if !self.owed.is_empty() {
+            self.owed.clear();
+        }
+        self.last = 0;
+    }
+
+    /// Whether it has room for few parts at most.
+    pub(crate) fn is_small(&self) -> bool {
+        self.order.is_small()
+    }
+
     /// Adds a call of the caller of this number: its parts join the order, and its reply is owed.
     ///
     /// # Errors

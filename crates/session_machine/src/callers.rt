@@ -11,6 +11,7 @@ ghost use Rattle.session_machine.specs.Callers.{order_of, owed_of, last_of, Othe
 
 use crate::caller::{CallPlaces, Caller};
 use crate::giving_up::give_up;
+use crate::spares::Spares;
 use session_core::{Askable, CallerOrder, Overtaken, PartOrder};
 use std::alloc::{AllocError, Global};
 use std::collections::{BTreeMap, BTreeSet};
@@ -24,7 +25,9 @@ use std::collections::{BTreeMap, BTreeSet};
 /// averaged over the calls, except as [`CallerOrder`] says.
 #[derive(Drop)]
 pub(crate) struct Callers {
-    callers: BTreeMap<u64, Caller>,
+    /// Each is in a block of its own, so that the tree moves little when others come and go.
+    callers: BTreeMap<u64, Box<Caller>>,
+    spares: Spares,
 }
 
 impl Callers {
@@ -36,6 +39,7 @@ impl Callers {
     {
         Callers {
             callers: BTreeMap::new(alloc),
+            spares: Spares::new(alloc),
         }
     }
 
@@ -224,7 +228,8 @@ impl Callers {
         if !self.is_last(caller, call) {
             return;
         }
-        self.callers.remove(&caller);
+        let gone = self.callers.remove(&caller);
+        self.spares.keep(gone);
     }
 
     /// Whether this was the last call of a caller of which something is kept.
@@ -267,7 +272,7 @@ impl Callers {
         ensures others { OthersKept caller self.old self.new }
         ensures err { OnErr result (CallsKept self.old self.new) }
     {
-        let mut entry = Caller::new(alloc);
+        let mut entry = self.spares.take(alloc)?;
         let places = entry.begin(alloc, caller, number, orders)?;
         self.callers.insert(caller, entry)?;
         Ok(places)

@@ -24,8 +24,10 @@ mod calls;
 mod giving_up;
 mod links;
 mod machine;
+mod orders;
 mod part;
 mod part_places;
+mod spares;
 mod telling;
 mod took;
 

@@ -18,10 +18,11 @@ use crate::caller::CallPlaces;
 use crate::callers::Callers;
 use crate::calls::{Calls, call_of, waiting};
 use crate::links::Links;
+use crate::orders::orders_of;
 use crate::part::Part;
 use crate::part_places::{
     first_order, is_offered, is_past, note_asked, note_given_up, note_unsent, ordered_place,
-    orders_of, owes_before, place_of,
+    owes_before, place_of,
 };
 use crate::took::Took;
 use crate::{calls, telling};

@@ -1,6 +1,6 @@
 //! The parts of calls in the orders of their callers.
 
-ghost use Rattle.std.specs.Prelude.{◌≡◌, ◌+◌, ◌-◌, ◌^◌, ◌<◌, ◌≤◌, true, false, ℕ, Some, None, IfOk, IfSome, length, slice_get};
+ghost use Rattle.std.specs.Prelude.{◌≡◌, ◌+◌, ◌-◌, ◌^◌, ◌<◌, ◌≤◌, true, false, ℕ, Some, None, IfSome, length, slice_get};
 ghost use Rattle.session_core.specs.declared.ordered_part.Status.TheVariants.{Waits, Asked, Unsent};
 ghost use Rattle.session_core.specs.Order.{MayAsk, OnLink, IsTrimmed, IsWaiting, IsOnItsWay, with_status, trimmed};
 ghost use Rattle.session_core.specs.declared.part.PartOrder.TheVariants.{Free};
@@ -8,16 +8,13 @@ ghost use Rattle.session_core.specs.Part.{PartState};
 ghost use Rattle.session_machine.specs.Ties.{is_ordered, is_owed, end_of};
 ghost use Rattle.session_machine.specs.declared.caller.CallPlaces.{CallPlaces};
 ghost use Rattle.session_machine.specs.Callers.{order_of, owed_of, OnlyOrder};
-ghost use Rattle.session_machine.specs.Begun.{ordered_of};
 ghost use Rattle.session_machine.specs.Kept.{PartGoes, CallGoes, CanFollow, Follows};
 
 use crate::call::Call;
 use crate::caller::CallPlaces;
 use crate::callers::Callers;
 use crate::calls::{Calls, call_of};
-use crate::part::Part;
 use session_core::{PartOrder, Status};
-use std::alloc::{AllocError, Global};
 use std::collections::VecDeque;
 
 /// The place of a part in the order of its caller, if it is ordered.
@@ -185,17 +182,6 @@ pub(crate) fn is_ordered(order: PartOrder) -> bool
     ensures { result ≡ is_ordered order }
 {
     !matches!(order, PartOrder::Free)
-}
-
-/// The orders of the parts that are ordered.
-pub(crate) fn orders_of(alloc: Global, parts: &[Part]) -> Result<Vec<PartOrder>, AllocError>
-    ensures { IfOk result (λ orders. orders.items ≡ ordered_of parts.now) }
-{
-    parts
-        .iter()
-        .map(|part| part.order())
-        .filter(|order| is_ordered(*order))
-        .collect(alloc)
 }
 
 /// The order of the first part of a call. Without parts, this is [`PartOrder::Free`].

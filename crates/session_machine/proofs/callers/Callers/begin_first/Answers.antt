@@ -1,4 +1,4 @@
-use Rattle.std.proofs.Common.{Some, sym, ap, subst, ◌∙◌}
+use Rattle.std.proofs.Common.{Some, refl, sym, ap, subst, ◌∙◌}
 use Rattle.session_core.specs.Order.{MayJoin, joined}
 use Rattle.session_machine.specs.Ties.{end_of, is_owed}
 use Rattle.session_machine.specs.declared.caller.Caller.{Caller}
@@ -7,44 +7,62 @@ use Rattle.session_machine.proofs.callers.Callers.begin_first.Goals as goal
 
 pub begin-requires-clause-joins : goal.begin-requires-clause-joins
 begin-requires-clause-joins c =
-    let none = missing c.args.caller c.args.self.now (sym c.requires.unknown) ∙ sym c.new-entry.ensures in
-    subst (MayJoin c.args.number c.args.orders.now) (order_by c.args.caller c.args.self.now c.new-entry.result none) c.requires.joins
+    let was = c.deref_mut.result.now in
+    let none = missing c.args.caller c.args.self.now (sym c.requires.unknown) ∙ sym (c.deref_mut.ensures.value ∙ c.in_ok-entry.ensures) in
+    subst (MayJoin c.args.number c.args.orders.now) (order_by c.args.caller c.args.self.now was none) c.requires.joins
 
 pub begin-requires-clause-is_new : goal.begin-requires-clause-is_new
-begin-requires-clause-is_new c = ap (λ (x : Caller). is_owed c.args.number x.owed) c.new-entry.ensures
+begin-requires-clause-is_new c = ap (λ (x : Caller). is_owed c.args.number x.owed) (c.deref_mut.ensures.value ∙ c.in_ok-entry.ensures)
+
+pub returns-in_err-entry-clause-others : goal.returns-in_err-entry-clause-others
+returns-in_err-entry-clause-others c = others_same c.args.caller c.args.self.now (record c.args.self.now { spares = c.take.new.self }) refl
+
+pub returns-in_err-entry-clause-err : goal.returns-in_err-entry-clause-err
+returns-in_err-entry-clause-err c = err_same c.args.self.now (record c.args.self.now { spares = c.take.new.self }) c.from_residual.result refl
+
+pub returns-in_err-places-clause-others : goal.returns-in_err-places-clause-others
+returns-in_err-places-clause-others c = others_same c.args.caller c.args.self.now (record c.args.self.now { spares = c.take.new.self }) refl
+
+pub returns-in_err-places-clause-err : goal.returns-in_err-places-clause-err
+returns-in_err-places-clause-err c = err_same c.args.self.now (record c.args.self.now { spares = c.take.new.self }) c.from_residual-in_err-places.result refl
 
 pub returns-in_err-insert-clause-others : goal.returns-in_err-insert-clause-others
-returns-in_err-insert-clause-others c = others_same c.args.caller c.args.self.now (record { callers = c.insert.new.self }) c.in_err-insert.ensures.err
+returns-in_err-insert-clause-others c = others_same c.args.caller c.args.self.now (record { callers = c.insert.new.self; spares = c.take.new.self }) c.in_err-insert.ensures.err
 
 pub returns-in_err-insert-clause-err : goal.returns-in_err-insert-clause-err
-returns-in_err-insert-clause-err c = err_same c.args.self.now (record { callers = c.insert.new.self }) c.from_residual-in_err-insert.result c.in_err-insert.ensures.err
+returns-in_err-insert-clause-err c = err_same c.args.self.now (record { callers = c.insert.new.self; spares = c.take.new.self }) c.from_residual-in_err-insert.result c.in_err-insert.ensures.err
 
 pub returns-clause-place : goal.returns-clause-place
 returns-clause-place c =
-    let none = missing c.args.caller c.args.self.now (sym c.requires.unknown) ∙ sym c.new-entry.ensures in
-    let w = written c.args.caller c.new-entry.result c.begin.new.self c.args.self.now (record { callers = c.insert.new.self }) none c.in_ok-insert.ensures.updates in
+    let was = c.deref_mut.result.now in
+    let none = missing c.args.caller c.args.self.now (sym c.requires.unknown) ∙ sym (c.deref_mut.ensures.value ∙ c.in_ok-entry.ensures) in
+    let w = written c.args.caller was (record c.in_ok-entry.entry { value = c.begin.new.self }) c.args.self.now (record { callers = c.insert.new.self; spares = c.take.new.self }) none c.in_ok-insert.ensures.updates in
     c.in_ok-places.ensures.place ∙ ap end_of (sym w.was_order)
 
 pub returns-clause-joined : goal.returns-clause-joined
 returns-clause-joined c =
-    let none = missing c.args.caller c.args.self.now (sym c.requires.unknown) ∙ sym c.new-entry.ensures in
-    let w = written c.args.caller c.new-entry.result c.begin.new.self c.args.self.now (record { callers = c.insert.new.self }) none c.in_ok-insert.ensures.updates in
+    let was = c.deref_mut.result.now in
+    let none = missing c.args.caller c.args.self.now (sym c.requires.unknown) ∙ sym (c.deref_mut.ensures.value ∙ c.in_ok-entry.ensures) in
+    let w = written c.args.caller was (record c.in_ok-entry.entry { value = c.begin.new.self }) c.args.self.now (record { callers = c.insert.new.self; spares = c.take.new.self }) none c.in_ok-insert.ensures.updates in
     w.order ∙ c.in_ok-places.ensures.joined ∙ ap (joined c.args.number c.args.orders.now) (sym w.was_order)
 
 pub returns-clause-owed : goal.returns-clause-owed
 returns-clause-owed c =
-    let none = missing c.args.caller c.args.self.now (sym c.requires.unknown) ∙ sym c.new-entry.ensures in
-    let w = written c.args.caller c.new-entry.result c.begin.new.self c.args.self.now (record { callers = c.insert.new.self }) none c.in_ok-insert.ensures.updates in
+    let was = c.deref_mut.result.now in
+    let none = missing c.args.caller c.args.self.now (sym c.requires.unknown) ∙ sym (c.deref_mut.ensures.value ∙ c.in_ok-entry.ensures) in
+    let w = written c.args.caller was (record c.in_ok-entry.entry { value = c.begin.new.self }) c.args.self.now (record { callers = c.insert.new.self; spares = c.take.new.self }) none c.in_ok-insert.ensures.updates in
     rw (w.was_owed, w.owed) c.in_ok-places.ensures.owed
 
 pub returns-clause-others : goal.returns-clause-others
 returns-clause-others c =
-    let none = missing c.args.caller c.args.self.now (sym c.requires.unknown) ∙ sym c.new-entry.ensures in
-    let w = written c.args.caller c.new-entry.result c.begin.new.self c.args.self.now (record { callers = c.insert.new.self }) none c.in_ok-insert.ensures.updates in
+    let was = c.deref_mut.result.now in
+    let none = missing c.args.caller c.args.self.now (sym c.requires.unknown) ∙ sym (c.deref_mut.ensures.value ∙ c.in_ok-entry.ensures) in
+    let w = written c.args.caller was (record c.in_ok-entry.entry { value = c.begin.new.self }) c.args.self.now (record { callers = c.insert.new.self; spares = c.take.new.self }) none c.in_ok-insert.ensures.updates in
     w.others
 
 pub returns-clause-last : goal.returns-clause-last
 returns-clause-last c =
-    let none = missing c.args.caller c.args.self.now (sym c.requires.unknown) ∙ sym c.new-entry.ensures in
-    let w = written c.args.caller c.new-entry.result c.begin.new.self c.args.self.now (record { callers = c.insert.new.self }) none c.in_ok-insert.ensures.updates in
+    let was = c.deref_mut.result.now in
+    let none = missing c.args.caller c.args.self.now (sym c.requires.unknown) ∙ sym (c.deref_mut.ensures.value ∙ c.in_ok-entry.ensures) in
+    let w = written c.args.caller was (record c.in_ok-entry.entry { value = c.begin.new.self }) c.args.self.now (record { callers = c.insert.new.self; spares = c.take.new.self }) none c.in_ok-insert.ensures.updates in
     w.last ∙ ap Some c.in_ok-places.ensures.last

@@ -23,7 +23,7 @@ begin-requires-clause-joins c =
     let s : State = record { links = c.self.inside.links; first = c.self.inside.first; calls = c.self.inside.calls.items } in
     let call = c.count_begun-call.result in
     let is : call ≡ begun s = subst (λ (t : State). call ≡ begun t) (sym c.self.view_is) c.count_begun-call.ensures in
-    let orders : c.as_slice-2.result.now ≡ ordered_of c.args.parts.items = c.as_slice-2.ensures.value ∙ c.in_ok-orders.ensures ∙ ap ordered_of c.as_slice.ensures.value in
+    let orders : c.as_slice-2.result.now ≡ ordered_of c.args.parts.items = c.as_slice-2.ensures ∙ c.in_ok-orders.ensures ∙ ap ordered_of c.as_slice.ensures.value in
     subst (λ (os : List PartOrder). MayJoin call os (order_of c.args.caller c.self.inside.callers)) (sym orders)
     (joins s c.self.invariant call c.args.caller c.args.parts.items is c.requires.wait c.requires.apart c.requires.alike)
 
@@ -39,7 +39,7 @@ invariant_of-self-2 c =
     let s : State = record { links = c.self.inside.links; first = c.self.inside.first; calls = c.self.inside.calls.items } in
     let call = c.count_begun-call.result in
     let is : call ≡ begun s = subst (λ (t : State). call ≡ begun t) (sym c.self.view_is) c.count_begun-call.ensures in
-    let orders : c.as_slice-2.result.now ≡ ordered_of c.args.parts.items = c.as_slice-2.ensures.value ∙ c.in_ok-orders.ensures ∙ ap ordered_of c.as_slice.ensures.value in
+    let orders : c.as_slice-2.result.now ≡ ordered_of c.args.parts.items = c.as_slice-2.ensures ∙ c.in_ok-orders.ensures ∙ ap ordered_of c.as_slice.ensures.value in
     let e = c.in_ok-places.ensures in
     let calls_are : c.push_back_reserved.new.self.items ≡ s.calls ++ begun_call c.args.caller c.args.parts.items ∷ [] =
     c.push_back_reserved.ensures.items ∙ ap (λ (cs : List CallState). cs ++ c.new.result ∷ []) c.reserve.ensures.items ∙ ap (λ (x : CallState). s.calls ++ x ∷ []) c.new.ensures in
