@@ -18,8 +18,8 @@ all_wait : (parts : List PartState) → ((i : ℕ) (p : PartState) → slice_get
 all_wait [] each = refl
 all_wait (p ∷ parts) each = let first : is_waiting p.phase ≡ true = each 0 p refl in rw first (all_wait parts (λ i q at. each (suc i) q at))
 
-pub one_more : {request : List ℕ} {order : PartOrder} {may : Bool} (parts : List PartState) (part : PartState) → AreNewParts request order may parts → IsNewPart request order may part → AreNewParts request order may (parts ++ part ∷ [])
-one_more {request = request} {order = order} {may = may} [] part each here zero p at = subst (IsNewPart request order may) (same_Some part p at) here
+pub one_more : {retries : ℕ} {request : List ℕ} {order : PartOrder} {may : Bool} (parts : List PartState) (part : PartState) → AreNewParts retries request order may parts → IsNewPart retries request order may part → AreNewParts retries request order may (parts ++ part ∷ [])
+one_more {retries = retries} {request = request} {order = order} {may = may} [] part each here zero p at = subst (IsNewPart retries request order may) (same_Some part p at) here
 one_more [] part each here (suc i) p at = absurd (cc at)
 one_more (q ∷ parts) part each here zero p at = each zero p at
 one_more (q ∷ parts) part each here (suc i) p at = one_more parts part (λ k x e. each (suc k) x e) here i p at
@@ -35,9 +35,9 @@ alike : (order : PartOrder) (parts : List PartState) (b : Bool) → is_ordered o
 alike order parts true is each = inl (λ i p at. ap is_ordered (each i p at) ∙ is)
 alike order parts false is each = inr (λ i p at. ap is_ordered (each i p at) ∙ is)
 
-pub several_begin : {request : List ℕ} {order : PartOrder} {may : Bool} (parts : List PartState) → AreNewParts request order may parts → 0 < length request → has_slot order ≡ false → CanBegin parts
+pub several_begin : {retries : ℕ} {request : List ℕ} {order : PartOrder} {may : Bool} (parts : List PartState) → AreNewParts retries request order may parts → 0 < length request → has_slot order ≡ false → CanBegin parts
 several_begin {order = order} parts each some none = record {
-  wait = all_wait parts (λ i p at. (each i p at).waits);
+  wait = all_wait parts (λ i p at. ap is_waiting (each i p at).waits);
   apart = λ i j p q before first second. rw ((each i p first).order_is) (no_slot order q.order none);
   alike = alike order parts (is_ordered order) refl (λ i p at. (each i p at).order_is);
   full = λ i p at. rw ((each i p at).request_is) some;

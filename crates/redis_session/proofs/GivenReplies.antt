@@ -16,8 +16,8 @@ use Rattle.session_core.specs.Part.{Phase, PartState, Waits, Asked, Answered, Lo
 use Rattle.session_core.specs.State.{CallState, State, Finish, Happens, after, call_after, call_at, numbered, part_at}
 use Rattle.session_core.proofs.AfterEvents.{slice_get-numbered}
 use Rattle.redis_session.specs.CallReplies.{GivesBytes, IsErrorFor, IsMadeBy, IsOnly, IsReplyOfNodes, IsReplyTo, IsSplitReply, answers_in, cause_of, effect_on, first_unanswered}
-use Rattle.redis_session.specs.Leads.{Finishes}
-use Rattle.redis_session.specs.Rules.{KeepOthers, KeptRules, rule_in}
+use Rattle.redis_session.specs.Leads.{Finishes, IsInTime}
+use Rattle.redis_session.specs.Rules.{KeptRules, rule_in, without}
 use Rattle.redis_session.specs.SessionStates.{Given, Nothing, OfPart, Bytes, SessionState, answer_in, bytes_of, given_of, names}
 use Rattle.redis_session.specs.SplitReplies.{first_error, joined}
 use Rattle.redis_session.specs.Told.{error_reply, unfit_reply}
@@ -178,9 +178,9 @@ bytes_stay (Bytes c bytes) call state s = refl
 
 pub finishes_by : (caller call : ℕ) (old now : SessionState) (machine : State) (left : KeptRules) (reply : LastReply) (owed state : CallState) → old ≡ now
     → call_at call old.machine ≡ Some owed → owed.caller ≡ caller → Happens old.machine (Finish call state) machine
-    → KeepOthers call old.rules left
+    → left ≡ without call old.rules → IsInTime call now
     → HasReply now call reply → Finishes caller call now (record old { machine = machine; rules = left; given = given_of reply })
-finishes_by caller call old now machine left reply owed state same at its happens keep made =
+finishes_by caller call old now machine left reply owed state same at its happens forgets in_time made =
     let of_old : HasReply old call reply = subst (λ (s : SessionState). HasReply s call reply) (sym same) made in
     let it = of_old state happens.may.call_is in
     let bytes : bytes_of (given_of reply) machine ≡ bytes_of (given_of reply) old.machine =
@@ -188,8 +188,8 @@ finishes_by caller call old now machine left reply owed state same at its happen
     subst (λ (s : SessionState). Finishes caller call s (record old { machine = machine; rules = left; given = given_of reply })) same (record {
       state = state;
       given = happens;
+      in_time = subst (IsInTime call) (sym same) in_time;
       caller_is = ap (λ (x : CallState). x.caller) (same_Some state owed (sym happens.may.call_is ∙ at)) ∙ its;
       reply_is = subst (IsReplyTo (names old) (rule_in old.rules call) state.parts) (sym bytes) it;
-      keep_rules = keep;
-      others = refl;
+      others = ap (λ (kept : KeptRules). record old { machine = machine; rules = kept; given = given_of reply }) forgets;
     })

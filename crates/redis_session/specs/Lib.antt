@@ -9,7 +9,9 @@ pub mod Added
 pub mod Begins
 pub mod CallReplies
 pub mod CommandKinds
+pub mod Deadlines
 pub mod Leads
+pub mod Learned
 pub mod Plans
 pub mod Refusals
 pub mod Rules

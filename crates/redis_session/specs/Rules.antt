@@ -1,10 +1,10 @@
 -- How the replies to calls are made.
-use Rattle.std.specs.Prelude.{◌≡◌, ◌≢◌, ℕ, List, Option, None, Some}
+use Rattle.std.specs.Prelude.{◌≡◌, ◌≢◌, ℕ, Bool, true, false, List, Option, None, Some}
 use Rattle.std.specs.BTreeMap.{is_at}
 use Rattle.std.specs.Map.{lookup, remove_entry}
 use Rattle.std.specs.Ordering.{nat_cmp}
 use Rattle.redis_session.specs.declared.rules.ReplyRule.{ReplyRule}
-use Rattle.redis_session.specs.declared.rules.ReplyRule.TheVariants.{One}
+use Rattle.redis_session.specs.declared.rules.ReplyRule.TheVariants.{One, Several}
 
 -- the rules that are kept, by the numbers of their calls
 abbrev pub KeptRules : Type 0
@@ -21,6 +21,11 @@ rule_in kept call = rule_or_one (lookup (is_at (nat_cmp call)) kept)
 -- what is kept once that of a call is forgotten
 abbrev pub without : ℕ → KeptRules → KeptRules
 without call kept = remove_entry (is_at (nat_cmp call)) kept
+
+-- the reply is made of those of several nodes
+abbrev pub is_several : ReplyRule → Bool
+is_several (Several policy) = true
+is_several other = false
 
 -- each other call has the rule that it had
 abbrev pub KeepOthers : ℕ → KeptRules → KeptRules → Type 0

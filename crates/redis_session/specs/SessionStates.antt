@@ -1,14 +1,17 @@
 -- What contracts see of a session.
-use Rattle.std.specs.Prelude.{ℕ, List, [], Option, None, Some}
+use Rattle.std.specs.Prelude.{◌==◌, ℕ, Bool, false, List, [], Option, None, Some}
 use Rattle.session_core.specs.Part.{Phase, PartState, Answered}
 use Rattle.session_core.specs.State.{State, part_at, start}
 use Rattle.redis_routing.specs.Names.{Names, names_of}
 use Rattle.redis_routing.specs.Registry.{Registrations}
 use Rattle.redis_session.specs.Added.{Added}
+use Rattle.redis_session.specs.Deadlines.{Deadlines}
 use Rattle.redis_session.specs.Rules.{KeptRules}
+use Rattle.redis_session.specs.Table.{Table}
 use Rattle.redis_session.specs.Told.{error_reply, unfit_reply}
 use Rattle.redis_session.specs.declared.session.replying.LastReply.{LastReply}
 use Rattle.redis_session.specs.declared.session.replying.LastReply.TheVariants as last
+use Rattle.redis_session.specs.declared.settings.Settings.{Settings}
 
 -- The reply that was given last.
 pub data Given : Type 0 where
@@ -25,12 +28,20 @@ given_of (last.Made call bytes) = Bytes call bytes.items
 given_of (last.Error call cause effect) = Bytes call (error_reply cause effect)
 given_of (last.Unfit call) = Bytes call unfit_reply
 
-pub record SessionState : Type 0 where
-  -- its links and its calls
-  pub machine : State
-  -- how the replies to its calls are made
-  pub rules : KeptRules
-  pub given : Given
+-- it is the reply to this call
+abbrev pub is_reply_of : ℕ → Given → Bool
+is_reply_of call Nothing = false
+is_reply_of call (OfPart own) = own == call
+is_reply_of call (Bytes own bytes) = own == call
+
+-- What a session was told when it began, as far as contracts say something of it.
+pub record SessionSettings : Type 0 where
+  -- the request with which each link begins; empty: none
+  pub login : List ℕ
+  -- how many bytes a reply may have
+  pub most_reply_bytes : ℕ
+  -- how often nodes may refuse a part before it is given up
+  pub retries : ℕ
   -- the names of the commands that only read
   pub read_only : List (List ℕ)
   -- the multi-key commands that the tables lack
@@ -38,14 +49,48 @@ pub record SessionState : Type 0 where
   -- the names that shared links take besides those of the table
   pub added : Added
 
--- a session of no links and no calls, which was told of these names
-abbrev pub new_session : List (List ℕ) → Registrations → Added → SessionState
-new_session read_only registered added =
-    record { machine = start; rules = []; given = Nothing; read_only = read_only; registered = registered; added = added }
+abbrev pub settings_of : Settings → SessionSettings
+settings_of s = record {
+  login = s.login.items;
+  most_reply_bytes = s.most_reply_bytes;
+  retries = s.retries;
+  read_only = s.read_only;
+  registered = s.registry;
+  added = s.added;
+}
+
+pub record SessionState : Type 0 where
+  -- its links and its calls
+  pub machine : State
+  -- how the replies to its calls are made
+  pub rules : KeptRules
+  pub given : Given
+  -- which node serves each slot
+  pub table : Table
+  -- when the times of its calls are over
+  pub deadlines : Deadlines
+  -- the time that was noted last
+  pub now : ℕ
+  pub settings : SessionSettings
+
+-- a session of no links and no calls, which knows no node of a slot, with these settings
+abbrev pub new_session : SessionSettings → SessionState
+new_session settings = record {
+  machine = start;
+  rules = [];
+  given = Nothing;
+  table = record { map = []; moved = []; count = 0 };
+  deadlines = [];
+  now = 0;
+  settings = settings;
+}
 
 -- what it was told of names when it began
+abbrev pub names_by : SessionSettings → Names
+names_by settings = names_of settings.read_only settings.registered
+
 abbrev pub names : SessionState → Names
-names s = names_of s.read_only s.registered
+names s = names_by s.settings
 
 -- the last reply is forgotten
 abbrev pub without_reply : SessionState → SessionState

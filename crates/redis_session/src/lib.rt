@@ -25,6 +25,7 @@
 #![tactic(auto)]
 
 mod added;
+mod call_deadlines;
 mod kind;
 mod nodes;
 mod number_queue;

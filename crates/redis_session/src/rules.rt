@@ -1,7 +1,7 @@
 //! How the replies to calls are made.
 
 ghost use Rattle.std.specs.Prelude.{◌≡◌, [], OnOk, OnErr, option_copied};
-ghost use Rattle.redis_session.specs.Rules.{KeepOthers, rule_in, rule_or_one, without};
+ghost use Rattle.redis_session.specs.Rules.{KeepOthers, is_several, rule_in, rule_or_one, without};
 
 use redis_routing::ResponsePolicy;
 use std::alloc::{AllocError, Global};
@@ -73,10 +73,16 @@ impl Rules {
         self.rows.get(&call)
     }
 
+    /// Whether the reply to a call is made of those of several nodes. O(log n).
+    pub(crate) fn is_several(&self, call: u64) -> bool
+        ensures { result ≡ is_several (rule_in self.now call) }
+    {
+        matches!(self.rows.get(&call), Some(ReplyRule::Several(_)))
+    }
+
     /// Forgets the rule of a call.
     pub(crate) fn remove(&mut self, call: u64)
-        ensures removed { self.new ≡ without call self.old }
-        ensures others { KeepOthers call self.old self.new }
+        ensures { self.new ≡ without call self.old }
     {
         self.rows.remove(&call);
     }

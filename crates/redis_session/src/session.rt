@@ -7,6 +7,7 @@ mod asking;
 mod replying;
 mod taking;
 
+use crate::call_deadlines::CallDeadlines;
 use crate::nodes::{NodeLink, Nodes};
 use crate::refusal::CallRefusal;
 use crate::rules::Rules;
@@ -27,6 +28,7 @@ pub struct Session {
     pub(crate) machine: Machine,
     pub(crate) rules: Rules,
     pub(crate) table: SlotTable,
+    pub(crate) deadlines: CallDeadlines,
     pub(crate) nodes: Nodes,
     pub(crate) schedule: Schedule,
     pub(crate) settings: Settings,
@@ -56,23 +58,24 @@ impl Model for Session {
 }
 
 impl Session {
-    ghost use Rattle.session_core.specs.State.{CallState, Open, On, IsLink, call_at};
+    ghost use Rattle.session_core.specs.State.{CallState, On, IsLink, call_at};
     ghost use Rattle.session_core.specs.declared.link.Standing.TheVariants as Standing;
     ghost use Rattle.session_core.specs.LinkEvents as events;
     ghost use Rattle.session_core.specs.Channel.{Channel, to_write};
     ghost use Rattle.redis_session.specs.Refusals.{IsCallRefused};
-    ghost use Rattle.redis_session.specs.SessionStates.{names, new_session};
+    ghost use Rattle.redis_session.specs.SessionStates.{names, new_session, settings_of};
     ghost use Rattle.redis_session.specs.declared.refusal.CallRefusal.TheVariants as refused;
-    ghost use Rattle.redis_session.specs.Leads.{Does, Leads, Reports, Hears, HearsNot, Ends, ConnectsNot, BeginsCall, GivesUp, IsOpen};
+    ghost use Rattle.redis_session.specs.Leads.{Advances, Does, Leads, Opens, Hears, HearsNot, Ends, ConnectsNot, BeginsCall, GivesUp, IsOpen};
 
     /// No links, no calls, and no slot has a node. Takes no memory.
     pub fn new(alloc: Global, settings: Settings) -> Session
-        ensures { result ≡ new_session settings.read_only settings.registry settings.added }
+        ensures { result ≡ new_session (settings_of settings) }
     {
         Session {
             machine: Machine::new(alloc),
             rules: Rules::new(alloc),
             table: SlotTable::new(alloc),
+            deadlines: CallDeadlines::new(alloc),
             nodes: Nodes::new(alloc),
             schedule: Schedule::new(alloc),
             settings,
@@ -127,7 +130,7 @@ impl Session {
     /// If memory runs out. There is no link then, and the connection is to be closed. The node is as one that is
     /// unreachable.
     pub fn connected(&mut self, alloc: Global, node: usize) -> Result<usize, AllocError>
-        ensures ok { IfOk result (λ link. (most : ℕ) × Reports (Open link most) self.old self.new) }
+        ensures ok { IfOk result (λ link. Opens link self.old self.new) }
         ensures err { OnErr result (ConnectsNot self.old self.new) }
     {
         let Ok(opened) = self.machine.open(alloc, self.settings.most_reply_bytes) else {
@@ -283,10 +286,10 @@ impl Session {
         request: &[u8],
         deadline: u64,
     ) -> Result<u64, CallRefusal>
-        ensures begun { IfOk result (λ call. BeginsCall caller request.now call self.old self.new) }
+        ensures begun { IfOk result (λ call. BeginsCall caller request.now deadline call self.old self.new) }
         ensures refused { OnErr result (self.new ≡ self.old) }
         ensures why { IfErr result (λ refusal. (refusal ≡ refused.Limit)
-            ⊎ IsCallRefused (names self.old) self.old.added request.now refusal) }
+            ⊎ IsCallRefused (names self.old) self.old.settings.added request.now refusal) }
     {
         let call = self.begin_call(alloc, caller, request, deadline)?;
         // What finds no memory now is asked in a later step.
@@ -321,7 +324,7 @@ impl Session {
     ///
     /// If memory runs out for requests that are asked now. A later step asks them.
     pub fn advance(&mut self, alloc: Global, now: u64) -> Result<(), AllocError>
-        ensures { Leads self.old self.new }
+        ensures { Advances now self.old self.new }
     {
         self.time_before = self.now;
         self.now = self.now.max(now);
@@ -401,6 +404,13 @@ impl Session {
         ensures { self.new ≡ self.old }
     {
         self.is_map_wanted = true;
+    }
+
+    /// Notes that the map is wanted, if so.
+    pub(crate) fn want_map_if(&mut self, is_wanted: bool)
+        ensures { self.new ≡ self.old }
+    {
+        self.is_map_wanted |= is_wanted;
     }
 
     /// Takes the parts of a call out of the lists that they are in.

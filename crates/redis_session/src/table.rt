@@ -1,11 +1,9 @@
 //! Which node serves each slot.
 
 ghost use Rattle.std.specs.Prelude.{◌≡◌, ◌≢◌, ℕ, true, false, [], ◌↔◌, IsTrue, Some, None, IfOk, OnOk, OnErr, option_copied};
-ghost use Rattle.resp_core.specs.Reply.{Reply};
 ghost use Rattle.cluster_map.specs.Targets.{addresses_behind};
-ghost use Rattle.cluster_map.specs.ReplyNode.{entries_in};
-ghost use Rattle.redis_bytes.specs.Replies.{IsReply};
-ghost use Rattle.redis_session.specs.Table.{AreCounted, IsNodeAt, KeepsNode, LearnsMoved, LearnsMap, IsUsable, HasUsableMap, group_in};
+ghost use Rattle.redis_session.specs.Learned.{LearnsReply};
+ghost use Rattle.redis_session.specs.Table.{AreCounted, IsNodeAt, KeepsNode, LearnsMoved, IsUsable, HasUsableMap, group_in};
 
 use cluster_map::{NodeAddress, Route, SlotAddr, SlotMap};
 use redis_bytes::{BytesFault, slot_map};
@@ -125,8 +123,8 @@ impl SlotTable {
         asked: u64,
     ) -> Result<bool, AllocError>
         ensures usable { IfOk result (λ fills. IsTrue fills ↔ HasUsableMap answering.now reply.now) }
-        ensures learns { IfOk result (λ fills. fills ≡ true → (said : Reply) × IsReply said reply.now
-            × LearnsMap asked (entries_in answering.now said) self.old self.new) }
+        ensures learns { IfOk result (λ fills. fills ≡ true
+            → LearnsReply asked answering.now reply.now self.old self.new) }
         ensures stays { IfOk result (λ fills. fills ≡ false → self.new ≡ self.old) }
         ensures unchanged { OnErr result (self.new ≡ self.old) }
     {

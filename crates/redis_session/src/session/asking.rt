@@ -1,15 +1,16 @@
 //! Which parts are asked, and where.
 
-ghost use Rattle.std.specs.Prelude.{◌≡◌, ◌<◌, ◌++◌, ◌∷◌, [], false, length, IfOk, OnOk};
+ghost use Rattle.std.specs.Prelude.{◌≡◌, ◌<◌, ◌++◌, ◌∷◌, [], false, length, max, IfOk, OnOk};
 ghost use Rattle.redis_session.specs.Plans.{HaveOwnSlots};
-ghost use Rattle.redis_session.specs.Begins.{AreNewParts, CanBegin, IsErrandBy, IsNewPart, has_slot};
+ghost use Rattle.redis_session.specs.Table.{group_in};
+ghost use Rattle.redis_session.specs.Begins.{AreNewParts, CanBegin, IsErrandBy, IsNewPart, count_parts, has_slot};
 ghost use Rattle.redis_session.specs.declared.plan.CallParts.TheVariants as plans;
 
-use crate::nodes::NodeLink;
+use crate::nodes::{NodeLink, Nodes};
 use crate::plan::{CallParts, CallPlan, SlotPart};
 use crate::refusal::CallRefusal;
 use crate::rules::ReplyRule;
-use crate::schedule::{NewCall, Room, Target, Targets};
+use crate::schedule::{NewCall, Room, Schedule, Target, Targets};
 use crate::session::{Session, number_of};
 use cluster_map::NodeAddress;
 use redis_routing::NodeGroup;
@@ -31,12 +32,12 @@ struct Errand {
 impl Session {
     ghost use Rattle.std.specs.Prelude.{◌⊎◌, IfErr, List, OnErr};
     ghost use Rattle.session_core.specs.Part.{PartState};
-    ghost use Rattle.session_core.specs.State.{Begin};
     ghost use Rattle.session_core.specs.declared.link.Standing.TheVariants.{Open};
     ghost use Rattle.session_core.specs.Channel.{Channel};
     ghost use Rattle.session_core.specs.State.{IsLink};
     ghost use Rattle.redis_session.specs.Begins.{IsErrand};
-    ghost use Rattle.redis_session.specs.Leads.{DoesTo, Leads};
+    ghost use Rattle.redis_session.specs.Deadlines.{Forgets};
+    ghost use Rattle.redis_session.specs.Leads.{AddsCall, BeginsLink, Leads};
     ghost use Rattle.redis_session.specs.Refusals.{IsCallRefused};
     ghost use Rattle.redis_session.specs.Rules.{rule_in};
     ghost use Rattle.redis_session.specs.SessionStates.{names};
@@ -51,11 +52,11 @@ impl Session {
         deadline: u64,
     ) -> Result<u64, CallRefusal>
         ensures begun { IfOk result (λ call. (parts : List PartState)
-            × DoesTo call (Begin call caller parts) self.old self.new
-            × IsErrand (names self.old) self.old.added request.now (rule_in self.new.rules call) parts) }
+            × AddsCall call caller deadline parts self.old self.new
+            × IsErrand self.old.table self.old.settings request.now (rule_in self.new.rules call) parts) }
         ensures refused { OnErr result (self.new ≡ self.old) }
         ensures why { IfErr result (λ refusal. (refusal ≡ refused.Limit)
-            ⊎ IsCallRefused (names self.old) self.old.added request.now refusal) }
+            ⊎ IsCallRefused (names self.old) self.old.settings.added request.now refusal) }
     {
         if !self.has_room(request.len()) {
             return Err(CallRefusal::Limit);
@@ -67,7 +68,7 @@ impl Session {
             bytes: request.len(),
             targets: errand.targets,
         })?;
-        match self.begin_parts(alloc, caller, errand.rule, errand.parts) {
+        match self.begin_parts(alloc, caller, errand.rule, errand.parts, deadline) {
             Ok(call) => {
                 self.schedule.note_begun();
                 Ok(call)
@@ -86,20 +87,45 @@ impl Session {
         caller: u64,
         rule: ReplyRule,
         parts: Vec<Part>,
+        deadline: u64,
     ) -> Result<u64, AllocError>
         requires { CanBegin parts.items }
-        ensures begun { IfOk result (λ call. DoesTo call (Begin call caller parts.items) self.old self.new
+        ensures begun { IfOk result (λ call. AddsCall call caller deadline parts.items self.old self.new
             × (rule_in self.new.rules call ≡ rule)) }
         ensures err { OnErr result (self.new ≡ self.old) }
     {
         let next = self.machine.count_begun();
-        self.rules.add(next, rule)?;
+        self.deadlines.add(next, deadline)?;
+        if let Err(error) = self.rules.add(next, rule) {
+            self.deadlines.take_back();
+            return Err(error);
+        }
         match self.machine.begin(alloc, caller, parts) {
-            Ok(call) => Ok(call),
+            Ok(call) => {
+                self.forget_deadlines();
+                Ok(call)
+            }
             Err(error) => {
                 self.rules.remove(next);
+                self.deadlines.take_back();
                 Err(error)
             }
+        }
+    }
+
+    /// Forgets the first deadlines, if they are those of calls that were forgotten.
+    fn forget_deadlines(&mut self)
+        ensures forgets { Forgets self.old.machine self.old.deadlines self.new.deadlines }
+        ensures others { self.new ≡ record self.old { deadlines = self.new.deadlines } }
+    {
+        for _ in 0..self.deadlines.len() {
+            let Some(first) = self.deadlines.first() else {
+                return;
+            };
+            let None = self.machine.call(first) else {
+                return;
+            };
+            self.deadlines.forget_first();
         }
     }
 
@@ -113,8 +139,8 @@ impl Session {
     fn errand(&mut self, alloc: Global, request: &[u8]) -> Result<Errand, CallRefusal>
         ensures parts { IfOk result (λ errand. CanBegin errand.parts.items) }
         ensures errand { IfOk result (λ errand.
-            IsErrand (names self.old) self.old.added request.now errand.rule errand.parts.items) }
-        ensures refused { IfErr result (IsCallRefused (names self.old) self.old.added request.now) }
+            IsErrand self.old.table self.old.settings request.now errand.rule errand.parts.items) }
+        ensures refused { IfErr result (IsCallRefused (names self.old) self.old.settings.added request.now) }
         ensures state { self.new ≡ self.old }
     {
         let plan = CallPlan::new(alloc, request, self.names(), &self.settings.added)?;
@@ -141,7 +167,7 @@ impl Session {
         requires { 0 < length request.now }
         ensures begins { IfOk result (λ errand. CanBegin errand.parts.items) }
         ensures errand { IfOk result (λ errand.
-            IsErrandBy request.now may_refuse (plans.One order) errand.rule errand.parts.items) }
+            IsErrandBy self.entry.now.table self.entry.now.settings.retries request.now may_refuse (plans.One order) errand.rule errand.parts.items) }
     {
         let mut errand = Errand::new(alloc, ReplyRule::One);
         let target = match order {
@@ -163,7 +189,7 @@ impl Session {
         requires { HaveOwnSlots slots.items }
         ensures begins { IfOk result (λ errand. CanBegin errand.parts.items) }
         ensures errand { IfOk result (λ errand.
-            IsErrandBy request.now may_refuse (plans.Split slots) errand.rule errand.parts.items) }
+            IsErrandBy self.entry.now.table self.entry.now.settings.retries request.now may_refuse (plans.Split slots) errand.rule errand.parts.items) }
     {
         let retries = self.settings.retries;
         let mut errand = Errand::new(alloc, ReplyRule::Split(request.to_vec(alloc)?));
@@ -188,11 +214,11 @@ impl Session {
     ) -> Result<Errand, AllocError>
         requires some { 0 < length request.now }
         requires order { has_slot order ≡ false }
-        requires targets { 0 < length targets.items }
         ensures begins { IfOk result (λ errand. CanBegin errand.parts.items) }
         ensures rule { IfOk result (λ errand. errand.rule ≡ rule) }
-        ensures one { IfOk result (λ errand. 0 < length errand.parts.items) }
-        ensures each { IfOk result (λ errand. AreNewParts request.now order may_refuse errand.parts.items) }
+        ensures count { IfOk result (λ errand. length errand.parts.items ≡ length targets.items) }
+        ensures each { IfOk result (λ errand.
+            AreNewParts self.entry.now.settings.retries request.now order may_refuse errand.parts.items) }
     {
         let mut errand = Errand::new(alloc, rule);
         for target in targets {
@@ -210,33 +236,19 @@ impl Session {
         order: PartOrder,
         may_refuse: bool,
     ) -> Result<Part, AllocError>
-        ensures { IfOk result (IsNewPart request.now order may_refuse) }
+        ensures { IfOk result (IsNewPart self.entry.now.settings.retries request.now order may_refuse) }
     {
         let request = request.to_vec(alloc)?;
         Ok(Part::new(request, order, may_refuse, self.settings.retries))
     }
 
-    /// The nodes of a group, by the map. Those that are not known are added. If there are none, the request waits for
-    /// one.
+    /// The nodes of a group, by the map. If there are none, the request waits for one.
     fn group(&mut self, alloc: Global, group: NodeGroup) -> Result<Vec<Target>, AllocError>
-        ensures one { IfOk result (λ targets. 0 < length targets.items) }
+        ensures count { IfOk result (λ targets. length targets.items ≡ count_parts (group_in group self.old.table)) }
         ensures state { self.new ≡ self.old }
     {
-        let mut targets = Vec::new(alloc);
-        for address in self.table.group(alloc, group)? {
-            let target = match number_of(&mut self.nodes, &mut self.schedule, address)? {
-                Some(node) => {
-                    self.nodes.note_in_map(node);
-                    Target::Node(node)
-                }
-                None => Target::Nobody,
-            };
-            targets.push(target)?;
-        }
-        if targets.is_empty() {
-            targets.push(Target::Nobody)?;
-        }
-        Ok(targets)
+        let addresses = self.table.group(alloc, group)?;
+        targets_of(alloc, &mut self.nodes, &mut self.schedule, &addresses)
     }
 
     /// Asks the parts that are to be asked in this step.
@@ -432,7 +444,8 @@ impl Session {
 
     /// Begins a link to a node: with its login, or ready at once.
     pub(crate) fn begin_link(&mut self, node: usize, link: usize) -> Result<(), AllocError>
-        ensures { Leads self.old self.new }
+        ensures ok { OnOk result (BeginsLink link self.old self.new) }
+        ensures err { OnErr result (self.new ≡ self.old) }
     {
         self.nodes.make_room(link)?;
         if self.settings.login.is_empty() {
@@ -445,20 +458,52 @@ impl Session {
         Ok(())
     }
 
-    /// Asks the login of a link that is open.
+    /// Asks the login of a link.
+    ///
+    /// # Errors
+    ///
+    /// If memory runs out, there is no login, or the link is not open. Nothing is asked then.
     fn ask_login(&mut self, link: usize) -> Result<(), AllocError>
-        ensures { Leads self.old self.new }
+        ensures ok { OnOk result (BeginsLink link self.old self.new) }
+        ensures err { OnErr result (self.new ≡ self.old) }
     {
-        if self.settings.login.is_empty() {
-            return Ok(());
-        }
         let Some(Standing::Open) = self.machine.standing(link) else {
-            return Ok(());
+            return Err(AllocError);
         };
+        if self.settings.login.is_empty() {
+            return Err(AllocError);
+        }
         self.machine.ask_login(link, &self.settings.login)?;
         self.nodes.note_asked(link);
         Ok(())
     }
+}
+
+/// The nodes of these addresses, which the map has. Those that are not known are added. Without one, there is one target
+/// for which there is no node.
+fn targets_of(
+    alloc: Global,
+    nodes: &mut Nodes,
+    schedule: &mut Schedule,
+    addresses: &[&NodeAddress],
+) -> Result<Vec<Target>, AllocError>
+    ensures { IfOk result (λ targets. length targets.items ≡ max 1 (length addresses.now)) }
+{
+    let mut targets = Vec::new(alloc);
+    for address in addresses {
+        let target = match number_of(nodes, schedule, address)? {
+            Some(node) => {
+                nodes.note_in_map(node);
+                Target::Node(node)
+            }
+            None => Target::Nobody,
+        };
+        targets.push(target)?;
+    }
+    if targets.is_empty() {
+        targets.push(Target::Nobody)?;
+    }
+    Ok(targets)
 }
 
 impl Errand {

@@ -34,10 +34,12 @@ pub(crate) enum LastReply {
 
 impl LastReply {
     ghost use Rattle.std.specs.Prelude.{IfNone};
-    ghost use Rattle.redis_session.specs.SessionStates.{Nothing};
+    ghost use Rattle.redis_session.specs.SessionStates.{Nothing, is_reply_of};
 
     /// Whether it is the reply to this call.
-    pub(crate) fn is_of(&self, call: u64) -> bool {
+    pub(crate) fn is_of(&self, call: u64) -> bool
+        ensures { result ≡ is_reply_of call (given_of self.now) }
+    {
         match self {
             LastReply::Nothing => false,
             LastReply::OfPart(own) | LastReply::Made(own, _) => *own == call,
@@ -58,13 +60,13 @@ impl LastReply {
 }
 
 impl Session {
-    ghost use Rattle.std.specs.Prelude.{IfSome, IfNone, OnErr};
+    ghost use Rattle.std.specs.Prelude.{IfSome, IfNone, OnErr, true};
     ghost use Rattle.session_core.specs.State.{CallState};
     ghost use Rattle.redis_routing.specs.Names.{names_in};
     ghost use Rattle.redis_session.specs.CallReplies.{IsReplyTo, IsSplitReply};
     ghost use Rattle.redis_session.specs.Rules.{rule_in};
     ghost use Rattle.redis_session.specs.SessionStates.{last_reply, names, without_reply};
-    ghost use Rattle.redis_session.specs.Leads.{Finishes, GivesReply, Leads};
+    ghost use Rattle.redis_session.specs.Leads.{Finishes, GivesReply, IsInTime, Leads};
 
     /// The caller and the call of the next reply, if one is there. [`Session::reply`] has its bytes up to the next
     /// call of this function.
@@ -123,14 +125,16 @@ impl Session {
     }
 
     /// Whether nothing is awaited for a call: its parts are done, or its time is over.
-    fn is_over(&self, call: u64) -> bool {
-        let Some(record) = self.schedule.call(call) else {
+    fn is_over(&self, call: u64) -> bool
+        ensures { result ≡ true → IsInTime call self.entry.now }
+    {
+        let Some(state) = self.machine.call(call) else {
             return false;
         };
-        match self.machine.call(call) {
-            Some(state) => state.is_done() || record.is_late() && state.has_none_waiting(),
-            None => false,
+        if state.is_done() {
+            return true;
         }
+        state.has_none_waiting() && self.deadlines.is_over(call, self.now)
     }
 
     /// Gives a caller its next reply, if it is there. Returns the call that it is for.

@@ -1,23 +1,30 @@
 //! What becomes of the parts of calls: replies, links that end, and calls whose time is over.
 
+ghost use Rattle.std.specs.Prelude.{IfOk, IfSome};
+ghost use Rattle.redis_session.specs.Learned.{IsRedirectIn, SendsOn};
+
 use crate::nodes::NodeLink;
 use crate::schedule::{Room, Target};
 use crate::session::{Session, number_of};
+use cluster_slots::Slot;
 use redis_routing::{NodeGroup, Redirect};
 use session_core::{PartOrder, Seat, Standing, Ticket};
-use session_machine::{Phase, Took};
+use session_machine::{Part, Phase, Took};
 use std::alloc::{AllocError, Global};
 
 /// How many redirects a part may get before it pauses after each.
 const MOST_REDIRECTS_AT_ONCE: u32 = 4;
 
 impl Session {
-    ghost use Rattle.std.specs.Prelude.{◌≡◌, ◌⊎◌, OnOk, OnErr};
+    ghost use Rattle.std.specs.Prelude.{◌≡◌, OnOk, OnErr};
     ghost use Rattle.session_core.specs.declared.link.Standing.TheVariants.{Open};
     ghost use Rattle.session_core.specs.Channel.{Channel};
     ghost use Rattle.session_core.specs.LinkEvents as events;
     ghost use Rattle.session_core.specs.State.{On, IsLink};
-    ghost use Rattle.redis_session.specs.Leads.{Does, Leads, Ends, IsConnected};
+    ghost use Rattle.session_machine.specs.declared.took.Took.TheVariants.{Kept};
+    ghost use Rattle.session_core.specs.declared.part.Cause.TheVariants.{NoNode};
+    ghost use Rattle.redis_session.specs.Learned.{LearnsKept, LearnsRedirect, LearnsReplyOf, LearnsTold, Sets};
+    ghost use Rattle.redis_session.specs.Leads.{Does, Leads, LeadsBy, Notes, TakesAll, Ends, IsConnected, may_end};
 
     /// Takes the replies that came on a link, and notes whether it owes more. If no byte came now, its silence goes on.
     pub(crate) fn take_all(
@@ -26,7 +33,7 @@ impl Session {
         link: usize,
         is_heard: bool,
     ) -> Result<(), AllocError>
-        ensures { Leads self.old self.new }
+        ensures { TakesAll link self.old self.new }
     {
         let taken = self.take_replies(alloc, link);
         let owes = self.machine.count_waits(link) > 0;
@@ -38,27 +45,30 @@ impl Session {
 
     /// Takes the replies that came on a link.
     fn take_replies(&mut self, alloc: Global, link: usize) -> Result<(), AllocError>
-        ensures { Leads self.old self.new }
+        ensures { TakesAll link self.old self.new }
     {
         for _ in 0..self.machine.count_waits(link).saturating_add(1) {
             let Some(Standing::Open) = self.machine.standing(link) else {
                 return Ok(());
             };
-            let took = self.machine.take(alloc, link)?;
-            if matches!(took, Took::Nothing) {
-                return Ok(());
+            match self.machine.take(alloc, link)? {
+                Took::Nothing => return Ok(()),
+                Took::Broken(_) => {
+                    self.break_link(link);
+                    return Ok(());
+                }
+                took => self.note_took(alloc, link, took)?,
             }
-            self.note_took(alloc, link, took)?;
         }
         Ok(())
     }
 
     /// Notes what was taken on a link.
     fn note_took(&mut self, alloc: Global, link: usize, took: Took) -> Result<(), AllocError>
-        ensures { Leads self.old self.new }
+        ensures { Notes took self.old self.new }
     {
         match took {
-            Took::Nothing => Ok(()),
+            Took::Nothing | Took::Broken(_) => Ok(()),
             Took::Asking(_) => {
                 self.nodes.note_reply(link);
                 Ok(())
@@ -70,10 +80,6 @@ impl Session {
                 Ok(())
             }
             Took::Map(count, reply) => self.note_map(alloc, link, count, &reply),
-            Took::Broken(_) => {
-                self.break_link(link);
-                Ok(())
-            }
         }
     }
 
@@ -100,16 +106,12 @@ impl Session {
         count: u64,
         reply: &[u8],
     ) -> Result<(), AllocError>
-        ensures { Leads self.old self.new }
+        ensures { Sets (LearnsReplyOf count reply.now) self.old self.new }
     {
         self.nodes.note_reply(link);
         self.is_map_asked = false;
         self.map_time = self.pause_end();
-        let filled = match self.nodes.address_of_link(link) {
-            Some(address) => self.table.fill(alloc, reply, address.host(), count),
-            None => Ok(false),
-        };
-        match filled {
+        match self.fill_table(alloc, link, count, reply) {
             Ok(true) => {
                 self.nodes.forget_slots();
                 self.schedule.release_unserved();
@@ -126,6 +128,22 @@ impl Session {
                 Err(error)
             }
         }
+    }
+
+    /// Fills the table by the reply to a `CLUSTER SLOTS` on a link. Returns whether it did.
+    fn fill_table(
+        &mut self,
+        alloc: Global,
+        link: usize,
+        count: u64,
+        reply: &[u8],
+    ) -> Result<bool, AllocError>
+        ensures { Sets (LearnsReplyOf count reply.now) self.old self.new }
+    {
+        let Some(address) = self.nodes.address_of_link(link) else {
+            return Ok(false);
+        };
+        self.table.fill(alloc, reply, address.host(), count)
     }
 
     /// Notes which nodes the map has. Parts for other named nodes end when they are to be asked next.
@@ -146,7 +164,7 @@ impl Session {
 
     /// Notes that a part keeps its reply.
     fn note_kept(&mut self, alloc: Global, link: usize, seat: Seat) -> Result<(), AllocError>
-        ensures { Leads self.old self.new }
+        ensures { Notes (Kept seat) self.old self.new }
     {
         self.nodes.note_reply(link);
         if !self.keeps_error(seat) {
@@ -158,23 +176,34 @@ impl Session {
 
     /// Notes that a part keeps an error.
     fn note_error(&mut self, alloc: Global, link: usize, seat: Seat) -> Result<(), AllocError>
-        ensures { Leads self.old self.new }
+        ensures { Notes (Kept seat) self.old self.new }
     {
-        if self.keeps_change(seat) {
-            self.want_map();
-        }
-        let told = match self.machine.part(seat.call, seat.part) {
-            Some(part) => match part.phase() {
-                Phase::Refused(reply) => Some(redirect_in(alloc, reply, self.host_of(link))),
-                _ => None,
-            },
-            None => None,
-        };
+        self.want_map_if(self.keeps_change(seat));
+        let learned = self.learn_kept(alloc, link, seat);
         self.note_done(alloc, seat);
-        if let Some(told) = told {
-            self.learn(seat, told)?;
+        match learned {
+            Ok(_) => Ok(()),
+            Err(error) => Err(error),
         }
-        Ok(())
+    }
+
+    /// Learns the last refusal of a part, if it keeps one.
+    fn learn_kept(
+        &mut self,
+        alloc: Global,
+        link: usize,
+        seat: Seat,
+    ) -> Result<Option<Target>, AllocError>
+        ensures { Sets (LearnsKept seat self.old.machine) self.old self.new }
+    {
+        let Some(part) = self.machine.part(seat.call, seat.part) else {
+            return Ok(None);
+        };
+        let Phase::Refused(reply) = part.phase() else {
+            return Ok(None);
+        };
+        let told = redirect_of(alloc, part, reply, self.host_of(link));
+        self.learn(told)
     }
 
     /// Whether a part keeps an error of its node.
@@ -209,15 +238,25 @@ impl Session {
         seat: Seat,
         reply: &[u8],
     ) -> Result<(), AllocError>
-        ensures { Leads self.old self.new }
+        ensures { LeadsBy (LearnsRedirect seat.call seat.part reply.now self.old.machine) self.old self.new }
     {
         self.nodes.note_reply(link);
-        if wants_map(reply) {
-            self.want_map();
-        }
-        let told = redirect_in(alloc, reply, self.host_of(link));
-        let learned = self.learn(seat, told);
+        self.want_map_if(wants_map(reply));
+        let learned = self.learn_from(alloc, link, seat, reply);
         self.end_if_late(seat);
+        self.go_on(alloc, seat, reply, learned)
+    }
+
+    /// Has a part asked again that was refused, if it still waits, where it was learned that it is to be asked.
+    fn go_on(
+        &mut self,
+        alloc: Global,
+        seat: Seat,
+        refusal: &[u8],
+        learned: Result<Option<Target>, AllocError>,
+    ) -> Result<(), AllocError>
+        ensures { Leads self.old self.new }
+    {
         if !self.waits(seat) {
             self.note_done(alloc, seat);
             return match learned {
@@ -227,7 +266,7 @@ impl Session {
         }
         match learned {
             Ok(Some(target)) => self.follow(seat, target),
-            Ok(None) => self.wait_again(seat, reply),
+            Ok(None) => self.wait_again(seat, refusal),
             Err(error) => {
                 self.schedule.push_back(seat, Room::Ready);
                 return Err(error);
@@ -262,18 +301,31 @@ impl Session {
         self.schedule.pause(seat, end);
     }
 
-    /// Learns what a redirect says. Returns where its part is asked next, if that is known.
-    fn learn(
+    /// Learns what a refusal of a part says. Returns where the part is asked next, if that is known.
+    fn learn_from(
         &mut self,
+        alloc: Global,
+        link: usize,
         seat: Seat,
-        told: Result<Option<Redirect>, AllocError>,
+        refusal: &[u8],
     ) -> Result<Option<Target>, AllocError>
-        ensures { self.new ≡ self.old }
+        ensures { Sets (LearnsRedirect seat.call seat.part refusal.now self.old.machine) self.old self.new }
     {
-        let Some(redirect) = told? else {
+        let Some(part) = self.machine.part(seat.call, seat.part) else {
             return Ok(None);
         };
-        let Some(slot) = self.slot_of(seat) else {
+        let told = redirect_of(alloc, part, refusal, self.host_of(link));
+        self.learn(told)
+    }
+
+    /// Learns where a part is sent on. Returns where it is asked next, if that is known.
+    fn learn(
+        &mut self,
+        told: Result<Option<(u16, Redirect)>, AllocError>,
+    ) -> Result<Option<Target>, AllocError>
+        ensures { Sets (LearnsTold told) self.old self.new }
+    {
+        let Some((slot, redirect)) = told? else {
             return Ok(None);
         };
         match redirect {
@@ -526,6 +578,9 @@ impl Session {
     fn end_part(&mut self, seat: Seat)
         ensures { Leads self.old self.new }
     {
+        if !self.deadlines.is_over(seat.call, self.now) {
+            return;
+        }
         let is_unserved = self.schedule.is_unserved(seat);
         self.schedule.remove(seat);
         if is_unserved {
@@ -539,7 +594,16 @@ impl Session {
     pub(crate) fn end_without_node(&mut self, seat: Seat)
         ensures { Leads self.old self.new }
     {
-        self.machine.end_without_node(seat.call, seat.part);
+        if self.may_lack_node(seat.call) {
+            self.machine.end_without_node(seat.call, seat.part);
+        }
+    }
+
+    /// Whether a part of a call may end for want of a node: the time of the call is over, or it goes to several nodes.
+    fn may_lack_node(&self, call: u64) -> bool
+        ensures { result ≡ may_end self.entry.now call NoNode }
+    {
+        self.deadlines.is_over(call, self.now) || self.rules.is_several(call)
     }
 
     /// Notes that no part of a call waits any more.
@@ -595,12 +659,35 @@ fn wants_map(reply: &[u8]) -> bool {
         || reply.starts_with(b"-CLUSTERDOWN")
 }
 
-/// The redirect that a refusal is, by the host of the node that refused.
+/// Where a refusal sends a part on, and the slot of the part. `host` is that of the node that refused.
+fn redirect_of(
+    alloc: Global,
+    part: &Part,
+    refusal: &[u8],
+    host: Option<&str>,
+) -> Result<Option<(u16, Redirect)>, AllocError>
+    ensures { IfOk result (λ told. IfSome told (λ to. SendsOn part.now refusal.now to.0 to.1)) }
+{
+    let PartOrder::OfSlot(slot) = part.order() else {
+        return Ok(None);
+    };
+    if !part.is_refusal(refusal) {
+        return Ok(None);
+    }
+    match redirect_in(alloc, refusal, host)? {
+        Some((told, redirect)) if told.number() == slot => Ok(Some((slot, redirect))),
+        _ => Ok(None),
+    }
+}
+
+/// The redirect that an error is, by the host of the node that sent it.
 fn redirect_in(
     alloc: Global,
     reply: &[u8],
     host: Option<&str>,
-) -> Result<Option<Redirect>, AllocError> {
+) -> Result<Option<(Slot, Redirect)>, AllocError>
+    ensures { IfOk result (λ told. IfSome told (λ to. IsRedirectIn reply.now to.0 to.1)) }
+{
     let Some(rest) = reply.strip_prefix(b"-") else {
         return Ok(None);
     };
@@ -610,8 +697,5 @@ fn redirect_in(
     let Ok(text) = str::from_utf8(text) else {
         return Ok(None);
     };
-    match Redirect::from_error_text(alloc, text, host.unwrap_or(""))? {
-        Some((_, redirect)) => Ok(Some(redirect)),
-        None => Ok(None),
-    }
+    Redirect::from_error_text(alloc, text, host.unwrap_or(""))
 }

@@ -1,33 +1,28 @@
 use Rattle.std.proofs.Common.{inl, refl, subst, sym}
 use Rattle.session_core.specs.State.{Open}
-use Rattle.redis_session.specs.Leads.{Ends, Reports}
+use Rattle.redis_session.specs.Leads.{Ends, IsOpened, Opens}
 use Rattle.redis_session.specs.SessionStates.{SessionState}
 use Rattle.redis_session.specs.SessionView.{view_of}
-use Rattle.redis_session.proofs.Leads.{does_by, leads_on, reports_by}
+use Rattle.redis_session.proofs.Leads.{does_by, opens_by}
 use Rattle.redis_session.proofs.session.Session.connected.Goals as goal
 
 pub returns-in-Err-clause-err : goal.returns-in-Err-clause-err
 returns-in-Err-clause-err c =
-    let most = c.self.inside.settings.most_reply_bytes in
     let before = view_of c.self.inside in
     let after = record before { machine = c.open.new.self } in
-    let mid = c.begin_link.new.self in
+    let opened = does_by before after (Open c.in-Ok.opened before.settings.most_reply_bytes) c.in-Ok.ensures.ok refl in
     inl (
       c.in-Ok.opened,
-      most,
-      mid,
-      subst (λ (s : SessionState). Reports (Open c.in-Ok.opened most) s mid) c.self.view_is
-          (reports_by before after mid (Open c.in-Ok.opened most) (does_by before after (Open c.in-Ok.opened most) c.in-Ok.ensures.ok refl) c.begin_link.ensures),
-      subst (λ (s : SessionState). Ends c.in-Ok.opened mid s) (sym c.unreachable-in-Err.ensures) c.end_link.ensures,
+      after,
+      subst (λ (s : SessionState). IsOpened c.in-Ok.opened s after) c.self.view_is opened,
+      subst (λ (s : SessionState). Ends c.in-Ok.opened s c.unreachable-in-Err.new.self) c.in-Err.ensures.err
+          (subst (λ (s : SessionState). Ends c.in-Ok.opened c.begin_link.new.self s) (sym c.unreachable-in-Err.ensures) c.end_link.ensures),
     )
 
 pub returns-clause-ok : goal.returns-clause-ok
 returns-clause-ok c =
-    let most = c.self.inside.settings.most_reply_bytes in
     let before = view_of c.self.inside in
-    let after = record before { machine = c.open.new.self } in (
-      most,
-      subst (λ (s : SessionState). Reports (Open c.in-Ok.opened most) s c.step.new.self) c.self.view_is
-          (reports_by before after c.step.new.self (Open c.in-Ok.opened most) (does_by before after (Open c.in-Ok.opened most) c.in-Ok.ensures.ok refl)
-          (leads_on after c.begin_link.new.self c.step.new.self c.begin_link.ensures c.step.ensures)),
-    )
+    let after = record before { machine = c.open.new.self } in
+    subst (λ (s : SessionState). Opens c.in-Ok.opened s c.step.new.self) c.self.view_is
+    (opens_by c.in-Ok.opened before after c.begin_link.new.self c.step.new.self
+    (does_by before after (Open c.in-Ok.opened before.settings.most_reply_bytes) c.in-Ok.ensures.ok refl) c.in_default-begin_link.ensures.ok c.step.ensures)

@@ -1,4 +1,4 @@
-use Rattle.std.proofs.Common.{refl, subst}
+use Rattle.std.proofs.Common.{◌∙◌, refl, subst, sym}
 use Rattle.session_core.specs.State.{End}
 use Rattle.session_core.specs.declared.part.Cause.TheVariants.{Late}
 use Rattle.redis_session.specs.Leads.{Leads}
@@ -12,4 +12,4 @@ returns c = let it = c.end_late in
     let before = view_of c.self.inside in
     let after = record before { machine = it.new.self } in
     subst (λ (s : SessionState). Leads s after) c.self.view_is
-    (leads_if before after (End c.args.seat.call c.args.seat.part Late) it.result refl it.ensures.ended it.ensures.not refl)
+    (leads_if before after (End c.args.seat.call c.args.seat.part Late) it.result (sym c.is_over.ensures ∙ c.if-not-is_over.false) it.ensures.ended it.ensures.not refl)

@@ -13,5 +13,5 @@ loop-target-preserved c = (
 pub returns-clause-begins : goal.returns-clause-begins
 returns-clause-begins c = several_begin c.loop-target.errand.parts.items c.loop-target.invariant.0 c.requires.some c.requires.order
 
-pub returns-clause-one : goal.returns-clause-one
-returns-clause-one c = search rules
+pub returns-clause-count : goal.returns-clause-count
+returns-clause-count c = search rules

@@ -2,6 +2,7 @@ use Rattle.std.proofs.Common.{◌≡◌, ◌++◌, ◌∙◌, [], ◌∷◌, map
 use Rattle.std.proofs.lemmas.Grind.{common_steps}
 use Rattle.std.proofs.lemmas.List.{append-nil, nil_from_length}
 use Rattle.redis_session.specs.Begins.{CanBegin, new_slot_part}
+use Rattle.redis_session.specs.SessionStates.{SessionState}
 use Rattle.redis_session.proofs.Begins.{slots_begin}
 use Rattle.redis_session.proofs.session.Session.slot_parts.Goals as goal
 
@@ -19,7 +20,7 @@ returns-clause-errand c =
     let parts = c.loop-slot_part.errand.parts.items in
     let none : c.loop-slot_part.slot_part-iterator.rest.items ≡ [] = nil_from_length c.loop-slot_part.slot_part-iterator.rest.items (search rules) in
     let all : parts ≡ made c.args.slots.items = sym (append-nil parts) ∙ ap (λ rest. parts ++ made rest) (sym none) ∙ c.loop-slot_part.invariant.0 in
-    (c.loop-slot_part.invariant.1, (c.self.inside.settings.retries, all))
+    (c.loop-slot_part.invariant.1, all ∙ ap (λ (s : SessionState). map (new_slot_part c.args.may_refuse s.settings.retries) c.args.slots.items) c.self.view_is)
 
 pub loop-slot_part-init : goal.loop-slot_part-init
 loop-slot_part-init c = (search rules, (c.in_ok-to_vec.field-0, c.new-errand.ensures.rule, search rules))

@@ -1,0 +1,84 @@
+-- What a session learns of the nodes that serve slots, and of whom.
+use Rattle.std.specs.Prelude.{◌≡◌, ◌⊎◌, ◌++◌, ℕ, true, List, Option, Some, Result, Ok, codes}
+use Rattle.resp.specs.Forms.{crlf}
+use Rattle.resp_core.specs.Reply.{Reply}
+use Rattle.cluster_slots.specs.Address.{Address}
+use Rattle.cluster_map.specs.ReplyNode.{entries_in}
+use Rattle.redis_routing.specs.RedirectText.{IsRedirectText}
+use Rattle.redis_routing.specs.declared.info.Redirect.{Redirect}
+use Rattle.redis_routing.specs.declared.info.Redirect.TheVariants.{Moved}
+use Rattle.redis_bytes.specs.Replies.{IsReply}
+use Rattle.session_core.specs.declared.link.Ticket.{Ticket}
+use Rattle.session_core.specs.declared.link.Ticket.TheVariants.{Map, Part}
+use Rattle.session_core.specs.declared.part.PartOrder.TheVariants.{OfSlot}
+use Rattle.session_core.specs.declared.ordered_part.Seat.{Seat}
+use Rattle.session_core.specs.Part.{PartState, Refused, is_refusal}
+use Rattle.session_core.specs.State.{State, part_at}
+use Rattle.session_machine.specs.declared.took.Took.{Took}
+use Rattle.session_machine.specs.declared.took.Took.TheVariants as took
+use Rattle.redis_session.specs.SessionStates.{SessionState}
+use Rattle.redis_session.specs.Table.{IsUsable, LearnsMap, LearnsMoved, Table}
+
+-- The error sends a part of this slot on: `-MOVED 3300 n3:1`. The host may be left out, as in `-MOVED 3300 :1`. Then it is
+-- `answering`, that of some node.
+abbrev pub IsRedirectIn : List ℕ → ℕ → Redirect → Type 0
+IsRedirectIn reply slot redirect = (answering text : List ℕ)
+    × (reply ≡ codes "-" ++ (text ++ crlf)) × IsRedirectText answering text slot redirect
+
+-- The part is of this slot, and its node refused to run it by a reply that sends it on.
+pub record SendsOn (it : PartState) (reply : List ℕ) (slot : ℕ) (redirect : Redirect) : Type 0 where
+  pub slot_is : it.order ≡ OfSlot slot
+  pub refused : is_refusal it reply ≡ true
+  pub told : IsRedirectIn reply slot redirect
+
+-- A part was refused by this reply, which names the node that its slot has for good. The table learns it, for no other
+-- slot.
+pub record LearnsRedirect (call part : ℕ) (reply : List ℕ) (s : State) (old new : Table) : Type 0 where
+  pub it : PartState
+  pub part_is : part_at call part s ≡ Some it
+  pub slot : ℕ
+  pub node : Address
+  pub sent : SendsOn it reply slot (Moved node)
+  pub learns : LearnsMoved slot node old new
+
+-- The reply has a usable map, which was asked for after so many `MOVED` were learned. The table learns it. A host
+-- that the reply leaves out is `host`.
+pub record LearnsReply (asked : ℕ) (host reply : List ℕ) (old new : Table) : Type 0 where
+  pub said : Reply
+  pub said_is : IsReply said reply
+  pub usable : IsUsable (entries_in host said)
+  pub learns : LearnsMap asked (entries_in host said) old new
+
+-- of some host
+abbrev pub LearnsReplyOf : (asked : ℕ) → List ℕ → Table → Table → Type 0
+LearnsReplyOf asked reply old new = (host : List ℕ) × LearnsReply asked host reply old new
+
+-- what a table learns of the reply for this ticket
+abbrev pub Learns : State → Ticket → List ℕ → Table → Table → Type 0
+Learns s (Map asked) reply old new = LearnsReplyOf asked reply old new
+Learns s (Part call part) reply old new = LearnsRedirect call part reply s old new
+Learns s other reply old new = ⊥
+
+-- ---- as functions take it
+
+-- the table learns this, or nothing changes
+pub record Sets (How : Table → Table → Type 0) (old new : SessionState) : Type 0 where
+  pub learns : How old.table new.table ⊎ (new.table ≡ old.table)
+  pub others : new ≡ record old { table = new.table }
+
+-- where a part is sent on, as the table learns it
+abbrev pub LearnsTold : {E : Type 0} → Result (Option (ℕ × Redirect)) E → Table → Table → Type 0
+LearnsTold told old new =
+    (slot : ℕ) × (node : Address) × (told ≡ Ok (Some (slot, Moved node))) × LearnsMoved slot node old new
+
+-- the part was refused by a reply that it keeps, which the table learns
+abbrev pub LearnsKept : Seat → State → Table → Table → Type 0
+LearnsKept seat s old new = (reply : List ℕ) × (p : PartState) × (part_at seat.call seat.part s ≡ Some p)
+    × (p.phase ≡ Refused reply) × LearnsRedirect seat.call seat.part reply s old new
+
+-- what the table learns of what was taken
+abbrev pub LearnsTook : State → Took → Table → Table → Type 0
+LearnsTook s (took.Kept seat) old new = LearnsKept seat s old new
+LearnsTook s (took.Back seat reply) old new = LearnsRedirect seat.call seat.part reply.items s old new
+LearnsTook s (took.Map asked reply) old new = LearnsReplyOf asked reply.items old new
+LearnsTook s other old new = ⊥
