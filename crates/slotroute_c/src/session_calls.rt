@@ -1,6 +1,6 @@
 ghost use Rattle.std.specs.Prelude.{◌≡◌, ◌≢◌, ◌⊎◌, ◌∷◌, [], Some, true, IsTrue};
 ghost use Rattle.session_core.specs.State.{CallState, call_at};
-ghost use Rattle.redis_session.specs.Leads.{BeginsCall, GivesUp, Leads};
+ghost use Rattle.redis_session.specs.Leads.{Advances, BeginsCall, GivesUp};
 ghost use Rattle.redis_session.specs.Refusals.{IsCallRefused};
 ghost use Rattle.redis_session.specs.SessionStates.{names};
 ghost use Rattle.redis_session.specs.declared.refusal.CallRefusal as refused;
@@ -31,11 +31,11 @@ pub extern "C" fn slotroute_session_begin(
     call: &mut u64,
 ) -> u32
     ensures done { result ≡ code Outcome.Done
-        → BeginsCall caller request.now call.new session.old.value session.new.value }
+        → BeginsCall caller request.now deadline call.new session.old.value session.new.value }
     ensures refused { result ≢ code Outcome.Done → (refusal : refused.CallRefusal)
         × (result ≡ code (of_refusal refusal)) × (session.new.value ≡ session.old.value)
         × (call.new ≡ call.old) × ((refusal ≡ refusals.Limit)
-        ⊎ IsCallRefused (names session.old.value) session.old.value.added request.now refusal) }
+        ⊎ IsCallRefused (names session.old.value) session.old.value.settings.added request.now refusal) }
 {
     match session.get_mut().begin(alloc, caller, request, deadline) {
         Ok(number) => {
@@ -101,7 +101,7 @@ pub extern "C" fn slotroute_session_advance(
     session: &mut SessionHandle,
     now: u64,
 ) -> u32
-    ensures leads { Leads session.old.value session.new.value }
+    ensures advances { Advances now session.old.value session.new.value }
     ensures no_other { IsTrue (is_one_of result (Outcome.Done ∷ Outcome.NoMemory ∷ [])) }
 {
     match session.get_mut().advance(alloc, now) {

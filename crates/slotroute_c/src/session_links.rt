@@ -1,9 +1,9 @@
-ghost use Rattle.std.specs.Prelude.{◌≡◌, ◌≢◌, ◌<◌, ◌∷◌, [], ℕ, IsTrue, length, take};
-ghost use Rattle.session_core.specs.State.{IsLink, On, Open};
+ghost use Rattle.std.specs.Prelude.{◌≡◌, ◌≢◌, ◌<◌, ◌∷◌, [], IsTrue, length, take};
+ghost use Rattle.session_core.specs.State.{IsLink, On};
 ghost use Rattle.session_core.specs.LinkEvents as events;
 ghost use Rattle.session_core.specs.declared.link.Standing.TheVariants as Standing;
 ghost use Rattle.session_core.specs.Channel.{Channel, to_write};
-ghost use Rattle.redis_session.specs.Leads.{ConnectsNot, Does, Ends, Hears, HearsNot, IsOpen, Reports};
+ghost use Rattle.redis_session.specs.Leads.{ConnectsNot, Does, Ends, Hears, HearsNot, IsOpen, Opens};
 ghost use Rattle.slotroute_c.specs.Buffers.{IsWritten};
 ghost use Rattle.slotroute_c.specs.Outcomes.{code, is_one_of};
 
@@ -26,7 +26,7 @@ pub extern "C" fn slotroute_session_connected(
     link: &mut usize,
 ) -> u32
     ensures done { result ≡ code Outcome.Done
-        → (most : ℕ) × Reports (Open link.new most) session.old.value session.new.value }
+        → Opens link.new session.old.value session.new.value }
     ensures no_memory { result ≡ code Outcome.NoMemory
         → ConnectsNot session.old.value session.new.value }
     ensures not_there { result ≡ code Outcome.NotThere → session.new.value ≡ session.old.value }

@@ -40,7 +40,7 @@ pub extern "C" fn slotroute_session_open(
     login: &[u8],
     session: &mut *mut u8,
 ) -> u32
-    ensures* opened { sem 𝓛 (opens alloc result session.old session.new) }
+    ensures* opened { sem 𝓛 (opens alloc settings.now login.now result session.old session.new) }
     // The result is 0, of `Done`, or 1, of `NoMemory`.
     ensures no_other { result < 2 }
 {
@@ -66,7 +66,7 @@ fn on_heap(
     settings: &SessionSettings,
     login: &[u8],
 ) -> Result<Block<Session, Global>, AllocError>
-    ensures { IfOk result (λ block. block.value ≡ opened) }
+    ensures { IfOk result (λ block. block.value ≡ opened settings.now login.now) }
 {
     let session = Session::new(
         alloc,

@@ -81,16 +81,16 @@ abbrev made_val : Val → ℕ → ℕ → Val
 made_val hv b o = live 0 (vcons (word Boxed hv b o) vnil)
 
 -- what came of the call that makes the block
-outcomes : {M : Type 1} {K : Type 0} {𝓤 : Ura M} {𝓛 : Logic 𝓤} {Γ : List (Item 𝓤)} {G : Goal 𝓤 𝓛.H} → K → (alloc : Heap.Denot) (old : Ptr) (r : Outcome.Denot) (u : Val) → IfOk r (λ x. x.value ≡ opened)
-    → ((b o : ℕ) (hv : Val) → u ≡ made_val hv b o → Fits (Boxed.al) hv → Seq K 𝓛 (‵ (opens_to alloc 0 old (block_ptr b o)) ∷ Γ) G)
+outcomes : {M : Type 1} {K : Type 0} {𝓤 : Ura M} {𝓛 : Logic 𝓤} {Γ : List (Item 𝓤)} {G : Goal 𝓤 𝓛.H} → K → (alloc : Heap.Denot) (settings : Settings.Denot) (login : List ℕ) (old : Ptr) (r : Outcome.Denot) (u : Val) → IfOk r (λ x. x.value ≡ opened settings login)
+    → ((b o : ℕ) (hv : Val) → u ≡ made_val hv b o → Fits (Boxed.al) hv → Seq K 𝓛 (‵ (opens_to alloc settings login 0 old (block_ptr b o)) ∷ Γ) G)
     → (u ≡ live 1 (vcons (vstruct vnil) vnil) → Seq K 𝓛 Γ G)
     → Seq K 𝓛 (‵ (Outcome.own_val r (u ∷ [])) ∷ Γ) G
-outcomes t alloc old (Ok x) u new made none =
+outcomes t alloc settings login old (Ok x) u new made none =
     fpick t (λ us. fsplit t $ feq_l t (λ u_is. fpick t (λ words. fsplit t $ feq_l t (λ us_is. fsplit t $ move t (1 ∷ []) $ drop t $
     box_out Boxed t (as_box x) words.0 (λ b o hv at word_is fits. fjoin t $ move t (1 ∷ []) $ drop t $
     rewrite t 0 (λ (y : SessionState). ‵ (block_owns alloc (block_ptr b o) y)) new refl $
     made b o hv (ap only (u_is ∙ (λ j. live 0 (of_list ((us_is ∙ ap (λ (ws : List Val). ws ++ []) word_is) j)) ∷ []))) fits)))))
-outcomes t alloc old (Err x) u new made none =
+outcomes t alloc settings login old (Err x) u new made none =
     fpick t (λ us. fsplit t $ feq_l t (λ u_is. fpick t (λ words. fsplit t $ feq_l t (λ us_is. fsplit t $ move t (1 ∷ []) $ drop t $
     fpick t (λ fields. fsplit t $ feq_l t (λ word_is. drop t $
     none (ap only (u_is ∙ (λ j. live 1 (of_list ((us_is ∙ ap (λ (ws : List Val). ws ++ []) word_is) j)) ∷ [])))))))))
@@ -112,7 +112,7 @@ slotroute_session_open_spec 𝓤 𝓛 𝓜 𝓡 wired =
     let Run : List Val → List Val → List Val → List Val → Goal 𝓤 𝓛.H = λ vs ws us os. prop (WpFn 𝓤 𝓛.H 𝓣.C 𝓣.Λ code.function (vs ++ (ws ++ (us ++ (os ++ [])))) Post) in
     let coded = (RawPtr.coded).code in
     let ends : (n : ℕ) (new : Ptr) → n < 2 → n < 2 ^ 32
-    → Sq 𝓛 (‵ (fobs out.ghost_name (coded new)) ∷ ‵ (fbor κ (Borrowed (mem RawPtr) ob oo out.ghost_name)) ∷ ‵ (flft κ q) ∷ ‵ (opens_to alloc n out.now new) ∷ (‵ (flft κs.0 qs.0) ⊛ ‵ (flft κs.1.0 qs.1.0) ⊛ ‵ ftrue) ∷ []) (prop (Post (vint w32 n))) = λ n new low fits.
+    → Sq 𝓛 (‵ (fobs out.ghost_name (coded new)) ∷ ‵ (fbor κ (Borrowed (mem RawPtr) ob oo out.ghost_name)) ∷ ‵ (flft κ q) ∷ ‵ (opens_to alloc settings.now login.now n out.now new) ∷ (‵ (flft κs.0 qs.0) ⊛ ‵ (flft κs.1.0 qs.1.0) ⊛ ‵ ftrue) ∷ []) (prop (Post (vint w32 n))) = λ n new low fits.
     suffices ! _ (ends_at 𝓛 f.ended stayed c z (vint w32 n) n (tt, (tt, (tt, (new, tt)))) (tt, (tt, (tt, (tt, tt))))) $
     feq_i ! (List Val) words.1.1.1.0 (vptr ob oo ∷ []) out_is $ fjoin3 ! $ nothing ! $ move ! (1 ∷ 0 ∷ []) $ fjoin ! $ nothing ! $ fjoin ! $ nothing ! $ fjoin ! $ nothing ! $ fjoin ! $
     owned ! u32 _ (uint_Makes 𝓛 w32) n _ (refl, fits) $
@@ -137,9 +137,9 @@ slotroute_session_open_spec 𝓤 𝓛 𝓜 𝓡 wired =
     nothing ! $ move ! (3 ∷ 0 ∷ []) $ join ! $ move ! (2 ∷ 0 ∷ []) $ join ! $ join ! $ nothing ! $ move ! (1 ∷ 0 ∷ []) $ join ! $ use1 𝓛 (raw (G.pre y)) (id⊢ 𝓤 _) $
     calls_at ! (framed 𝓤 𝓛.H 𝓜 𝓣) G (met 𝓤 𝓛 𝓜 𝓡 (code.calls-slotroute_c::sessions::on_heap 𝓡.env wired)) y (and_then ! (get ! refl) (and_then ! (get ! refl) (and_then ! (get ! refl) (no_more !)))) (λ u.
     use1 𝓛 (later (some (λ (r : Outcome.Denot). ((‵ (flft κs.0 qs.0) ⊛ ‵ (flft κs.1.0 qs.1.0) ⊛ ‵ ftrue) ⊛ ‵ (Outcome.own_val r (u ∷ [])))
-    ⊛ some (λ (ws : Lasts g.ended y.0.0 y.0.3). ‵ (lasts g.ended y.0.0 y.0.3 ws) ⊛ raw (fact 𝓤 (IfOk r (λ x. x.value ≡ opened))))))) (id⊢ 𝓤 _) $
-    await ! tt $ pick ! (λ r. split ! $ move ! (1 ∷ []) $ pick ! (λ ws. split ! $ drop ! $ heard ! (IfOk r (λ x. x.value ≡ opened)) (λ new. split ! $ move ! (1 ∷ []) $
-    outcomes ! alloc out.now r u new
+    ⊛ some (λ (ws : Lasts g.ended y.0.0 y.0.3). ‵ (lasts g.ended y.0.0 y.0.3 ws) ⊛ raw (fact 𝓤 (IfOk r (λ x. x.value ≡ opened settings.now login.now))))))) (id⊢ 𝓤 _) $
+    await ! tt $ pick ! (λ r. split ! $ move ! (1 ∷ []) $ pick ! (λ ws. split ! $ drop ! $ heard ! (IfOk r (λ x. x.value ≡ opened settings.now login.now)) (λ new. split ! $ move ! (1 ∷ []) $
+    outcomes ! alloc settings.now login.now out.now r u new
     (λ b o hv' u_is fits'. let typed = box_typed Boxed hv' b o fits' in
     lands_as ! u_is refl (and_tt _ typed.0, (record { fits = lit< tt }, (typed.1, tt))) $
     first ! $ switches_on ! (get_tag ! (vrt ! refl (fld ! refl (stop !))) (whole !)) $ exec ! 𝓣.C 𝓣.Λ En (arm_body 0 arms) Then $
