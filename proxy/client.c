@@ -71,6 +71,8 @@ static void client_close(client *it) {
         say("client %llu: %s", (unsigned long long)it->id, it->doom);
     }
     requests_disown(it);
+    subscription_is_awaited(it); /* not by a client that is closed */
+    subscription_leave(it);
     transaction_drop(it);
     private_drop(it);
     buffer_free(&it->in);
@@ -115,6 +117,13 @@ static bool has_enough(const client *it) {
 static bool may_read(const client *it) {
     return !it->is_ending && !it->is_alone && it->doom == NULL && !has_enough(it) &&
            unread(it) <= the_proxy.settings.client_memory;
+}
+
+/* Whether bytes are read, although no request is taken: a command about subscriptions may be among them,
+ * which has its turn before what others send later. */
+static bool may_look_ahead(const client *it) {
+    return it->first != NULL && it->first->is_subscription && buffer_len(&it->in) < STRANGER &&
+           it->doom == NULL;
 }
 
 /* Whether the client waits for as long as a node likes, as with BLPOP. */
@@ -171,6 +180,8 @@ static bool take(client *it, const uint8_t *bytes, size_t len) {
         has_begun = subscription_begin(it, bytes, len);
     else if (kind == COMMAND_CURSOR)
         scan_begin(it, bytes, len);
+    else if (kind == COMMAND_PUBLISH && subscription_is_awaited(it))
+        has_begun = false;
     else if (command_is_taken(kind) || kind == COMMAND_BLOCKING)
         has_begun = request_begin(it, bytes, len, kind);
     else
@@ -281,7 +292,9 @@ void client_settle(client *it) {
     write_replies(it);
     if (buffer_len(&it->in) > 0 && may_read(it))
         buffer_drop(&it->in, take_requests(it, buffer_at(&it->in), buffer_len(&it->in)));
-    bool is_waiting = it->has_ended && buffer_len(&it->in) > 0 && !may_read(it);
+    if (it->first == NULL || !it->first->is_subscription)
+        subscription_leave(it);
+    bool is_waiting = it->has_ended && buffer_len(&it->in) > 0 && (it->is_publisher || !may_read(it));
     if (it->first == NULL && buffer_len(&it->out) == 0 && !is_waiting)
         finish(it);
     it->is_dirty = false;
@@ -290,7 +303,8 @@ void client_settle(client *it) {
         return;
     }
     it->is_paused = may_be_paused(it);
-    bool reads = !it->has_ended && (it->is_ending || may_read(it)) && !it->is_paused;
+    bool may_go_on = it->is_ending || (may_read(it) && !it->is_publisher) || may_look_ahead(it);
+    bool reads = !it->has_ended && !it->is_paused && may_go_on;
     bool writes = buffer_len(&it->out) > 0;
     peer_watch(it->worker, &it->peer,
                (reads ? EPOLLIN : 0u) | (writes ? EPOLLOUT : 0u) | (is_blocked(it) ? EPOLLRDHUP : 0u));
@@ -305,7 +319,7 @@ void client_tick(client *it) {
         client_doom(it, "no TLS handshake in time");
     if (it->is_shut && it->worker->now > it->end_at)
         client_doom(it, "");
-    if (it->is_paused && !it->worker->is_pressed)
+    if ((it->is_paused && !it->worker->is_pressed) || it->is_publisher)
         client_touch(it);
     if (it->own != NULL)
         node_tick(it->own);

@@ -1,5 +1,7 @@
 #include "figures.h"
 
+#include "topology.h"
+
 #include <ctype.h>
 #include <stdio.h>
 #include <stdlib.h>
@@ -22,7 +24,9 @@ void figures_tick(node *it) {
         figure_set(&it->figures[NODE_NUMBER], it->number);
 }
 
-bool figures_is_ready(const worker *it) { return it->map.has_map && it->map.slots == SLOTROUTE_SLOTS; }
+bool figures_is_ready(const worker *it) {
+    return it->map.has_map && it->map.slots == SLOTROUTE_SLOTS && !topology_is_lost(it);
+}
 
 size_t figures_nodes_up(const named_list *nodes) {
     size_t count = 0;

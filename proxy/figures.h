@@ -20,8 +20,9 @@ typedef enum named_kind { NAMED_NODES, NAMED_COMMANDS, NAMED_REFUSED } named_kin
 named_list figures_of(named_kind kind);
 void named_free(named_list *list);
 
-/* Slots that have a node in the map of the first thread, and its nodes whose last connection did not fail. */
+/* Whether each slot has a node in the map of the first thread, and a node still gives it that map. */
 bool figures_is_ready(const worker *worker);
+/* Nodes whose last connections did not fail. */
 size_t figures_nodes_up(const named_list *nodes);
 
 /* Sets the figures of a node that are not counted as things happen. */

@@ -4,6 +4,7 @@
 #include "figures.h"
 #include "page.h"
 #include "peer.h"
+#include "topology.h"
 
 #include <errno.h>
 #include <stdio.h>
@@ -51,7 +52,8 @@ bool listeners_open(worker *worker) {
         readers[at].peer = (peer){.kind = PEER_READER, .fd = -1};
     bool is_open = open_one(worker, &listeners[0], PEER_LISTENER, listen_at(set->listen));
     if (set->unix_path != NULL)
-        is_open = is_open && open_one(worker, &listeners[1], PEER_LISTENER, listen_unix(set->unix_path));
+        is_open = is_open &&
+                  open_one(worker, &listeners[1], PEER_LISTENER, listen_unix(set->unix_path, set->unix_mode));
     if (set->metrics != NULL)
         is_open = is_open && open_one(worker, &listeners[2], PEER_FIGURES, listen_at(set->metrics));
     return is_open;
@@ -143,7 +145,8 @@ void listener_given(worker *worker) {
 }
 
 static void write_health(const worker *worker, buffer *out) {
-    buffer_print(out, "%zu of %d slots have a node\n", worker->map.slots, SLOTROUTE_SLOTS);
+    buffer_print(out, "%zu of %d slots have a node%s\n", worker->map.slots, SLOTROUTE_SLOTS,
+                 topology_is_lost(worker) ? ", and no node answers" : "");
 }
 
 /* What can be read at the port of figures. */

@@ -138,9 +138,7 @@ static bool run(void) {
     while (started < count &&
            pthread_create(&threads[started], NULL, worker_run, the_proxy.workers[started]) == 0)
         started++;
-    say("%s, %llu threads, before %zu primaries and %zu replicas with %zu slots", the_proxy.settings.listen,
-        (unsigned long long)started, first->map.primary_count,
-        first->map.all_count - first->map.primary_count, first->map.slots);
+    say("listening at %s; threads: %llu", the_proxy.settings.listen, (unsigned long long)started);
     if (the_proxy.settings.split_transactions)
         say("split-transactions: a transaction over several slots is not atomic: one slot may take effect "
             "without another");

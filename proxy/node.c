@@ -120,7 +120,7 @@ static void deliver(node *it, const uint8_t *reply, size_t len) {
     } else if (first.waits == WAITS_MAP) {
         topology_reply(it, first.client_id, reply, len);
     } else if (first.waits == WAITS_INFO) {
-        info_reply(it->worker, reply, len);
+        info_reply(it, reply, len);
     } else if (first.waits == WAITS_PASSWORD && reply[0] == '-') {
         char text[100];
         snprintf(text, sizeof text, "AUTH: %.*s", (int)(len - 3), (const char *)reply + 1);

@@ -51,14 +51,9 @@ static bool is_password(word given) {
     return differs == 0;
 }
 
-/* Whether the client is known now. An error is written if it is not. */
+/* Whether the client is known now. An error is written if it is not. If no password is set, the default user
+ * has any, as with a server. */
 static bool log_in(client *client, word user, word password) {
-    if (the_proxy.settings.password == NULL) {
-        request_refuse(client,
-                       "AUTH <password> called without any password configured for the default user. Are you "
-                       "sure your configuration is correct?");
-        return false;
-    }
     if (!word_is(user, "default") || !is_password(password)) {
         own_text(client, "-WRONGPASS invalid username-password pair or user is disabled.\r\n");
         return false;
@@ -71,6 +66,10 @@ static void answer_auth(client *client, const line *line) {
     word user = line->count == 3 ? line->words[1] : (word){"default", 7};
     if (line->count != 2 && line->count != 3)
         own_wrong_count(client, line->words[0]);
+    else if (line->count == 2 && the_proxy.settings.password == NULL)
+        request_refuse(client,
+                       "AUTH <password> called without any password configured for the default user. Are you "
+                       "sure your configuration is correct?");
     else if (log_in(client, user, line->words[line->count - 1]))
         own_text(client, "+OK\r\n");
 }

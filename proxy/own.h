@@ -31,6 +31,6 @@ void own_config(client *client, const line *line);
 /* What a node said of itself last. It is asked at times. */
 const char *info_field(const worker *worker, node_field field);
 void info_ask(node *node);
-void info_reply(worker *worker, const uint8_t *reply, size_t len);
+void info_reply(node *node, const uint8_t *reply, size_t len);
 
 #endif

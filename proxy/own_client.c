@@ -30,6 +30,7 @@ static void put_address(int fd, const char *name, int (*of)(int, struct sockaddr
         buffer_print(out, strchr(host, ':') != NULL ? " %s=[%s]:%s" : " %s=%s:%s", name, host, port);
 }
 
+/* Libraries read each of these fields as a number. So those that the proxy does not count are there, as 0. */
 static void put_client(const client *it, buffer *out) {
     uint64_t now = it->worker->now;
     size_t queued = buffer_len(&it->multi_list) / sizeof(queued_command);
@@ -38,15 +39,16 @@ static void put_client(const client *it, buffer *out) {
     put_address(it->peer.fd, "laddr", getsockname, out);
     buffer_print(out, " fd=%d name=", it->peer.fd);
     buffer_put(out, buffer_at(&it->name), buffer_len(&it->name));
-    buffer_print(out, " age=%llu idle=%llu flags=%s db=0 multi=%d qbuf=%zu omem=%zu user=default resp=%d\n",
+    buffer_print(out, " age=%llu idle=%llu flags=%s db=0 sub=0 psub=0 ssub=0 multi=%d qbuf=%zu qbuf-free=0",
                  (unsigned long long)((now - it->begun_at) / SECOND),
                  (unsigned long long)((now - it->active_at) / SECOND),
                  it->is_subscribed      ? "P"
                  : it->is_multi         ? "x"
                  : it->first && it->own ? "b"
                                         : "N",
-                 it->is_multi ? (int)queued : -1, buffer_len(&it->in), buffer_len(&it->out),
-                 it->is_three ? 3 : 2);
+                 it->is_multi ? (int)queued : -1, buffer_len(&it->in));
+    buffer_print(out, " argv-mem=0 obl=0 oll=0 omem=%zu tot-mem=%zu user=default redir=-1 resp=%d\n",
+                 buffer_len(&it->out), buffer_len(&it->in) + buffer_len(&it->out), it->is_three ? 3 : 2);
 }
 
 /* Answers with these clients of the thread, or with one. */

@@ -4,6 +4,7 @@
 #include "request.h"
 
 #include <fnmatch.h>
+#include <inttypes.h>
 #include <stdio.h>
 #include <string.h>
 #include <unistd.h>
@@ -24,16 +25,37 @@ const char *info_field(const worker *worker, node_field field) {
     return found[0] != 0 ? found : fields[field].first;
 }
 
-void info_ask(node *node) {
+static void ask(node *node) {
     static const char question[] = "*1\r\n$4\r\nINFO\r\n";
+    node_ask(node, question, sizeof question - 1, (waiter){.waits = WAITS_INFO});
+}
+
+void info_ask(node *node) {
     worker *worker = node->worker;
     if (worker->now < worker->info_at)
         return;
     worker->info_at = worker->now + EVERY;
-    node_ask(node, question, sizeof question - 1, (waiter){.waits = WAITS_INFO});
+    ask(node);
+    for (size_t at = 0; at < worker->map.primary_count; at++)
+        if (worker->map.primaries[at] != node && !worker->map.primaries[at]->is_failing)
+            ask(worker->map.primaries[at]);
 }
 
-void info_reply(worker *worker, const uint8_t *reply, size_t len) {
+/* Reads how many keys a node has. It leaves them out if it has none. */
+static void read_keys(node *node, const uint8_t *reply, size_t len) {
+    static const char name[] = "\ndb0:";
+    char text[100] = "";
+    const char *end = (const char *)reply + len, *at = memmem(reply, len, name, sizeof name - 1);
+    if (at != NULL)
+        snprintf(text, sizeof text, "%.*s", (int)(end - at), at);
+    if (sscanf(text, "\ndb0:keys=%" SCNu64 ",expires=%" SCNu64, &node->keys, &node->expiring) != 2)
+        node->keys = node->expiring = 0;
+}
+
+void info_reply(node *node, const uint8_t *reply, size_t len) {
+    worker *worker = node->worker;
+    if (reply[0] == '$')
+        read_keys(node, reply, len);
     for (size_t field = 0; field < NODE_FIELDS; field++) {
         const char *name = fields[field].name, *all_end = (const char *)reply + len;
         const char *at = memmem(reply, len, name, strlen(name));
@@ -42,6 +64,16 @@ void info_reply(worker *worker, const uint8_t *reply, size_t len) {
         if (end != NULL)
             snprintf(worker->fields[field], FIELD_ROOM, "%.*s", (int)(end - value), value);
     }
+}
+
+static void put_keys(const worker *worker, buffer *out) {
+    uint64_t keys = 0, expiring = 0;
+    for (size_t at = 0; at < worker->map.primary_count; at++) {
+        keys += worker->map.primaries[at]->keys;
+        expiring += worker->map.primaries[at]->expiring;
+    }
+    if (keys > 0)
+        buffer_print(out, "db0:keys=%" PRIu64 ",expires=%" PRIu64 ",avg_ttl=0\r\n", keys, expiring);
 }
 
 /* Writes all sections. Each begins with #. */
@@ -62,7 +94,8 @@ static void put_all(const worker *worker, buffer *out) {
     buffer_text(out, "# Persistence\r\nloading:0\r\n\r\n");
     stats_info(out);
     buffer_text(out, "\r\n# Replication\r\nrole:master\r\nconnected_slaves:0\r\n\r\n"
-                     "# Cluster\r\ncluster_enabled:0\r\n");
+                     "# Cluster\r\ncluster_enabled:0\r\n\r\n# Keyspace\r\n");
+    put_keys(worker, out);
 }
 
 /* Whether INFO names a section, or all. */

@@ -149,8 +149,8 @@ void page_write(const worker *it, buffer *out) {
     page_tick(it);
     buffer_text(out, head);
     buffer_print(out,
-                 "<h1>slotroute-proxy %s</h1><p%s>%s: %zu of %zu nodes are up. It runs since %llu seconds, "
-                 "with %llu threads.</p>",
+                 "<h1>slotroute-proxy %s</h1><p%s>%s: %zu of %zu nodes are up. The proxy has run for %llu "
+                 "seconds. Threads: %llu.</p>",
                  SLOTROUTE_VERSION, figures_is_ready(it) ? "" : " class=bad",
                  figures_is_ready(it) ? "Ready" : "Not ready", figures_nodes_up(&nodes), nodes.count,
                  (unsigned long long)((it->now - the_proxy.start) / SECOND),

@@ -121,7 +121,7 @@ int listen_at(const char *address) {
     return fd;
 }
 
-int listen_unix(const char *path) {
+int listen_unix(const char *path, uint64_t mode) {
     struct sockaddr_un address = {.sun_family = AF_UNIX};
     struct stat old;
     if (strlen(path) >= sizeof address.sun_path) {
@@ -131,6 +131,10 @@ int listen_unix(const char *path) {
     memcpy(address.sun_path, path, strlen(path));
     if (stat(path, &old) == 0 && S_ISSOCK(old.st_mode))
         unlink(path);
-    return listen_on(socket(AF_UNIX, SOCK_STREAM | SOCK_NONBLOCK | SOCK_CLOEXEC, 0),
-                     (struct sockaddr *)&address, sizeof address, path);
+    mode_t before = mode != 0 ? umask(~(mode_t)mode & 0777) : 0;
+    int fd = listen_on(socket(AF_UNIX, SOCK_STREAM | SOCK_NONBLOCK | SOCK_CLOEXEC, 0),
+                       (struct sockaddr *)&address, sizeof address, path);
+    if (mode != 0)
+        umask(before);
+    return fd;
 }

@@ -31,6 +31,6 @@ void address_split(const char *address, char *host, uint16_t *port);
 
 /* A socket that clients can connect to, or -1 with a line of the log. */
 int listen_at(const char *address);
-int listen_unix(const char *path);
+int listen_unix(const char *path, uint64_t mode); /* mode: its permissions, or 0 */
 
 #endif

@@ -105,7 +105,12 @@ struct client {
     node *ears;        /* connections to the other primaries, which tell it of their keys */
     buffer told;       /* requests that subscribe to what is told of keys, each with one name */
     buffer early;      /* messages that come before the replies to a command about subscriptions */
-    bool is_multi, is_multi_bad, is_watching;
+    client *next_subscribing, *previous_subscribing;
+    uint64_t turn; /* of its command about subscriptions that is not answered, or 0 */
+    client *next_publisher;
+    uint64_t awaited, awaited_at; /* the last turn that its PUBLISH waits for, or 0, and since when */
+    bool is_publisher;            /* its PUBLISH waits for subscriptions */
+    bool is_multi, is_multi_bad, is_multi_publishing, is_watching;
     bool is_watch_lost;       /* the connection on which it watches is another one now */
     buffer multi, multi_list; /* the commands since MULTI, and their lengths and slots */
     uint16_t multi_slot;      /* the first one of these, or the watched one, or NO_SLOT */
@@ -147,7 +152,8 @@ struct node {
     bool is_dirty, is_failing, is_in_map, is_primary, is_private, is_three;
     bool is_numbered; /* it has a number in cursors of SCAN */
     uint32_t scan_number;
-    bool is_new; /* what it owes was asked for since the last write */
+    bool is_new;             /* what it owes was asked for since the last write */
+    uint64_t keys, expiring; /* that it had when it told last */
     _Atomic uint64_t figures[NODE_FIGURES];
 };
 
@@ -177,6 +183,10 @@ struct worker {
     node *nodes[MOST_NODES];
     _Atomic size_t node_count; /* other threads read the figures of these nodes */
     client *clients, *dirty_clients, *troubled, *dead;
+    client *first_subscribing, *last_subscribing; /* by their turns */
+    client *publishers;                           /* whose PUBLISH waits for some of these */
+    uint64_t turns;
+    bool is_reading;          /* some of what came by now may not be read yet */
     node *dirty_nodes, *left; /* left: given up by the clients that had them alone */
     bool is_draining, is_pressed;
     uint64_t drain_until, pressed_at;

@@ -8,8 +8,8 @@
 #include <stdlib.h>
 #include <string.h>
 
-/* SECRET: a text that is the first line of a file. */
-typedef enum kind { TEXT, ADDRESS, SECRET, NUMBER, SIZE, SWITCH, SEED, NAME } kind;
+/* SECRET: a text that is the first line of a file. MODE: an octal number. */
+typedef enum kind { TEXT, ADDRESS, SECRET, NUMBER, SIZE, MODE, SWITCH, SEED, NAME } kind;
 
 typedef struct row {
     const char *name, *says;
@@ -24,6 +24,7 @@ static const row rows[] = {
     {"take", "NAME of a module's command on one key; may be given several times", NAME, 0, 0, 0},
     {"listen", "ADDR:PORT for clients (127.0.0.1:6380)", ADDRESS, AT(listen), 0, 0},
     {"unix", "PATH of a socket for clients", TEXT, AT(unix_path), 0, 0},
+    {"unix-mode", "permissions of that socket, as 0660 (by the umask)", MODE, AT(unix_mode), 1, 0777},
     {"metrics", "ADDR:PORT of figures, by HTTP", ADDRESS, AT(metrics), 0, 0},
     {"log", "PATH of the log (standard error)", TEXT, AT(log), 0, 0},
     {"threads", "how many event loops (1)", NUMBER, AT(threads), 1, MOST_THREADS},
@@ -53,7 +54,7 @@ static const row rows[] = {
      AT(split_transactions), 0, 0},
     {"quiet", "log only errors", SWITCH, AT(quiet), 0, 0},
 };
-enum { ROWS = sizeof rows / sizeof *rows, FIXED = 9 }; /* the first ones are read at the start alone */
+enum { ROWS = sizeof rows / sizeof *rows, FIXED = 10 }; /* the first ones are read at the start alone */
 enum { LONGEST_SECRET = 4096 };
 
 /* What is wrong with the settings, and whether they are read for another time. */
@@ -98,7 +99,7 @@ static bool read_number(const row *row, const char *value, uint64_t *number) {
     } units[] = {{"", 1}, {"kb", 1 << 10}, {"mb", 1 << 20}, {"gb", 1 << 30}};
     char *end = NULL;
     errno = 0;
-    unsigned long long found = strtoull(value, &end, 10);
+    unsigned long long found = strtoull(value, &end, row->kind == MODE ? 8 : 10);
     if (*value < '0' || *value > '9' || errno != 0)
         return false;
     for (size_t at = 0; at < (row->kind == SIZE ? 4 : 1); at++) {

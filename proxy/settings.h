@@ -20,6 +20,7 @@ typedef struct settings {
     text log;
     text password, node_password, node_user;
     text tls_cert, tls_key, tls_ca, node_tls_name;
+    number unix_mode; /* permissions of the socket, or 0 */
     number threads, max_clients;
     number max_message, max_reply;                /* bytes of a request, of a reply */
     number client_memory, memory;                 /* bytes that one client, and all, may take */

@@ -74,7 +74,7 @@ void stats_info(buffer *out) {
     for (counter at = 0; at < COUNTERS; at++)
         if (at != COUNT_CLIENTS_NOW && at != COUNT_MEMORY) /* which have sections of their own */
             buffer_print(out, "%s:%llu\r\n", rows[at].info, (unsigned long long)stats_count(at));
-    buffer_text(out, "\r\n# Latency, commands that took less than so many microseconds\r\n");
+    buffer_text(out, "\r\n# Latency\r\n");
     for (size_t at = 0; at + 1 < LATENCY_STEPS; at++)
         if (stats_took_sum(at) > 0)
             buffer_print(out, "below_%llu:%llu\r\n", 1ULL << at, (unsigned long long)stats_took_sum(at));

@@ -12,7 +12,8 @@
 /* The names of channels on which nodes tell what happens to their own keys begin so. */
 static const char keys[] = "__key";
 
-enum { MOST_TOLD = 65536 }; /* bytes of what a client is told of keys, at most */
+enum { MOST_TOLD = 65536 };     /* bytes of what a client is told of keys, at most */
+enum { LONGEST_WAIT = SECOND }; /* of a command that publishes */
 
 /* Asks for the end of replies. No client can have this channel, since its name begins as `keys`. A node takes
  * the command whenever it takes SUBSCRIBE. */
@@ -120,6 +121,70 @@ static void answer_none(client *client, word name, words channels) {
     request_answer_with(client, &out);
 }
 
+static void enter(client *client) {
+    worker *worker = client->worker;
+    if (client->turn != 0)
+        return;
+    client->turn = ++worker->turns;
+    client->previous_subscribing = worker->last_subscribing;
+    client->next_subscribing = NULL;
+    if (worker->last_subscribing != NULL)
+        worker->last_subscribing->next_subscribing = client;
+    else
+        worker->first_subscribing = client;
+    worker->last_subscribing = client;
+}
+
+void subscription_leave(client *client) {
+    worker *worker = client->worker;
+    struct client *next = client->next_subscribing, *previous = client->previous_subscribing;
+    if (client->turn == 0)
+        return;
+    client->turn = 0;
+    if (next != NULL)
+        next->previous_subscribing = previous;
+    else
+        worker->last_subscribing = previous;
+    if (previous != NULL)
+        previous->next_subscribing = next;
+    else
+        worker->first_subscribing = next;
+    for (struct client *it = worker->publishers; it != NULL && previous == NULL; it = it->next_publisher)
+        client_touch(it);
+}
+
+/* Puts the client among those that wait, or takes it away. */
+static void wait_to_publish(client *client, bool waits) {
+    struct client **link = &client->worker->publishers;
+    if (client->is_publisher == waits)
+        return;
+    client->is_publisher = waits;
+    while (!waits && *link != client)
+        link = &(*link)->next_publisher;
+    if (waits)
+        client->next_publisher = *link;
+    *link = waits ? client : client->next_publisher;
+}
+
+bool subscription_is_awaited(client *client) {
+    worker *worker = client->worker;
+    const struct client *first = worker->first_subscribing;
+    bool is_new = client->awaited == 0;
+    if (first == client)
+        first = first->next_subscribing; /* it has its own replies */
+    if (is_new && !worker->is_reading) {
+        client->awaited = worker->turns;
+        client->awaited_at = worker->now;
+    }
+    bool is_before =
+        first != NULL && first->turn <= client->awaited && worker->now - client->awaited_at < LONGEST_WAIT;
+    bool waits = client->doom == NULL && (is_before || (is_new && worker->is_reading));
+    if (!waits)
+        client->awaited = 0;
+    wait_to_publish(client, waits);
+    return waits;
+}
+
 bool subscription_begin(client *client, const uint8_t *bytes, size_t len) {
     words channels = words_of(bytes, len);
     word name = {"", 0};
@@ -146,6 +211,7 @@ bool subscription_begin(client *client, const uint8_t *bytes, size_t len) {
     size_t own_len = buffer_len(&all);
     buffer_put(&all, buffer_at(&rest), buffer_len(&rest));
     request_begin_subscription(client, &all, own_len, to);
+    enter(client);
     buffer_free(&rest);
     buffer_free(&all);
     return true;

@@ -20,6 +20,14 @@ bool subscription_begin(client *client, const uint8_t *bytes, size_t len);
 bool subscription_has(const node *own, const uint8_t *reply, size_t len);
 void subscription_message(node *own, const uint8_t *message, size_t len);
 
+/* A server takes commands as they arrive. Clients rely on this: they subscribe, wait for no reply, and
+ * publish over another connection. So a command that publishes waits until the commands about subscriptions
+ * that the thread read before it are answered, for a short while at most. Whether it has to wait: */
+bool subscription_is_awaited(client *client);
+
+/* The client's commands about subscriptions are answered, or it is closed. */
+void subscription_leave(client *client);
+
 /* All replies to a part of a command have come. The last part's says how many subscriptions there are. */
 void subscription_end(request *request, uint32_t part, const uint8_t *reply, size_t len);
 

@@ -22,6 +22,9 @@ node *topology_owner(const worker *worker, uint16_t slot) {
 
 void topology_want(worker *worker) { worker->map.is_wanted = true; }
 
+/* The first tries only skip nodes that failed, and the last one may still be answered. */
+bool topology_is_lost(const worker *worker) { return worker->map.tries > worker->map.all_count + 1; }
+
 void topology_slows(worker *worker, uint16_t slot) {
     uint64_t until = worker->now + the_proxy.settings.timeout * MILLISECOND + SECOND;
     worker->map.moving[slot] = until;

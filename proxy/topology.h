@@ -11,6 +11,9 @@ node *topology_owner(const worker *worker, uint16_t slot);
 void topology_want(worker *worker);
 void topology_tick(worker *worker);
 
+/* Whether all nodes of the map were asked for it in vain. */
+bool topology_is_lost(const worker *worker);
+
 /* A reply to CLUSTER SLOTS, or its loss. `number` says which map was asked for. */
 void topology_reply(node *from, uint64_t number, const uint8_t *reply, size_t len);
 void topology_lost(node *from, uint64_t number);

@@ -5,6 +5,7 @@
 #include "order.h"
 #include "own.h"
 #include "request.h"
+#include "subscription.h"
 
 #include <string.h>
 
@@ -14,7 +15,7 @@ void transaction_drop(client *client) {
     buffer_free(&client->multi);
     buffer_free(&client->multi_list);
     client->multi_slot = NO_SLOT;
-    client->is_multi = client->is_multi_bad = client->is_watching = false;
+    client->is_multi = client->is_multi_bad = client->is_multi_publishing = client->is_watching = false;
 }
 
 /* Forgets all without EXEC: the node has to forget what is watched, too. */
@@ -25,7 +26,8 @@ static void discard(client *client) {
 }
 
 static bool execute(client *client) {
-    if (client->is_watching && client->first != NULL)
+    if ((client->is_watching && client->first != NULL) ||
+        (client->is_multi_publishing && subscription_is_awaited(client)))
         return false;
     if (client->is_multi_bad || (client->is_watching && client->is_watch_lost)) {
         own_text(client, client->is_multi_bad
@@ -131,6 +133,7 @@ void transaction_queue(client *client, const uint8_t *bytes, size_t len, command
     }
     if (client->multi_slot == NO_SLOT)
         client->multi_slot = it.slot;
+    client->is_multi_publishing |= kind == COMMAND_PUBLISH;
     buffer_put(&client->multi_list, &it, sizeof it);
     buffer_put(&client->multi, bytes, len);
     own_text(client, "+QUEUED\r\n");

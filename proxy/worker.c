@@ -158,8 +158,10 @@ void worker_round(worker *it) {
     uint64_t wait = is_busy ? TICK : IDLE_TICK;
     int count = epoll_wait(it->poll, events, EVENTS, (int)(wait / MILLISECOND));
     it->now = clock_now();
+    it->is_reading = true;
     for (int at = 0; at < count; at++)
         dispatch(it, events[at].data.ptr, events[at].events);
+    it->is_reading = false;
     settle(it);
     if (it->now >= it->next_tick) {
         it->next_tick = it->now + TICK;

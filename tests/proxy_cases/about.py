@@ -4,7 +4,7 @@ import re
 import subprocess
 
 from outside import raw, rest_of
-from shared import Client, PORT, PROXY, request
+from shared import Client, PORT, PROXY, request, until
 
 
 def fields(text):
@@ -24,7 +24,12 @@ def try_info():
     is_cut = sections["REPLICATION"] == ["role", "connected_slaves"] and sections["none"] == [] and "proxy" in sections["server"]
     is_cut &= "cluster_enabled" in sections["memory cluster"] and "role" not in sections["memory cluster"]
     version = client.ask("HELLO", "2")[3].decode()
-    return is_right and is_cut and version == node["redis_version"] and "total_commands_processed" in fields(client.ask("INFO", "all"))
+    client.ask("SET", "foo", "1", "EX", "1000")
+    client.ask_all([["SET", str(it), "1"] for it in range(20)])
+    count = client.ask("DBSIZE")
+    has_count = until(30, lambda: re.fullmatch(f"keys={count},expires=[1-9][0-9]*,avg_ttl=0", fields(client.ask("INFO", "keyspace")).get("db0", ""))) is not None
+    is_cut &= all(re.fullmatch(r"# \w+", it) for it in client.ask("INFO").decode().split("\r\n") if it.startswith("#"))  # or lua-redis fails
+    return is_right and is_cut and has_count and version == node["redis_version"] and "total_commands_processed" in fields(client.ask("INFO", "all"))
 
 
 def try_config():
@@ -40,7 +45,7 @@ def try_config():
 
 def try_clients():
     """CLIENT tells of the clients, with names of any length. What would change the connection is refused."""
-    client, at_threads, name = Client(), [Client(), Client()], "n" * 5000
+    client, at_threads, name = Client(), [Client() for _ in range(8)], "n" * 5000  # one of them at the thread of `client`
     for it in at_threads:
         it.ask("SUBSCRIBE", "news")
     found = [client.ask("CLIENT", *it.split()) for it in (f"SETNAME {name}", "GETNAME", "SETINFO LIB-NAME x", "NO-EVICT on", "NO-TOUCH OFF", "ID")]
@@ -76,7 +81,13 @@ def try_lines():
     waiting = raw()
     waiting.sendall((request("GET", "none") + b"RESET\r\nECHO x\r\n") * 50 + b"QUIT\r\n")
     is_in_order = rest_of(waiting) == b"$-1\r\n+RESET\r\n$1\r\nx\r\n" * 50 + b"+OK\r\n"
-    print(found, pipe.stdout, bench.stdout[-300:], is_in_order)
+    quoted = []
+    for text in (rb'ECHO "a \x41\"\n\q"', rb"ECHO  'it\'s \n' ", b'ECHO ""', b'ECHO "x', b'ECHO "x"y', b"ECHO 'x\\'"):
+        connection = raw()
+        connection.sendall(text + b"\r\nQUIT\r\n")
+        quoted.append(rest_of(connection).removesuffix(b"+OK\r\n")[:19])
+    print(found, pipe.stdout, bench.stdout[-300:], is_in_order, quoted)
     is_right = is_in_order and found[0] == b"+PONG\r\n$5\r\nhello\r\n$1\r\nx\r\n*3\r\n$6\r\nmaster\r\n:0\r\n*0\r\n+OK\r\n" and found[6] == b"+PONG\r\n" * 2
     is_refused = found[1].startswith(b"+PONG\r\n-ERR Protocol error") and all(it.startswith(b"-ERR Protocol error") for it in found[2:6])
-    return is_right and is_refused and b"errors: 0, replies: 1000" in pipe.stdout and len(re.findall("requests per second", bench.stdout)) == 3
+    are_quotes_read = quoted == [b'$6\r\na A"\nq\r\n', b"$7\r\nit's \\n\r\n", b"$0\r\n\r\n"] + 3 * [b"-ERR Protocol error"]
+    return is_right and is_refused and are_quotes_read and b"errors: 0, replies: 1000" in pipe.stdout and len(re.findall("requests per second", bench.stdout)) == 3

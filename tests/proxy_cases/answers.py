@@ -1,5 +1,6 @@
 """What clients are answered."""
 
+import os
 import re
 import socket
 import subprocess
@@ -19,11 +20,13 @@ def try_own():
         client.ask("PING"), client.ask("PING", "x"), client.ask("ECHO", "hello"), client.ask("SELECT", "0"),
         client.ask("SELECT")[:4], client.ask("HELLO", "4")[:8], client.ask("HELLO", "2")[4:6],
         client.ask("CLIENT", "SETNAME", "me"), client.ask("CLIENT", "GETNAME"), b"maps:" in client.ask("INFO"),
-        len(client.ask("COMMAND")) > 100, client.ask("AUTH", "x")[:4], client.ask("QUIT"),
+        len(client.ask("COMMAND")) > 100, client.ask("AUTH", "x")[:4], client.ask("AUTH", "default", "x"),
+        client.ask("AUTH", "other", "x")[:10], client.ask("HELLO", "2", "AUTH", "default", "x")[5], client.ask("QUIT"),
     ]  # fmt: skip
     print(found)
     return found == [
         "+PONG", b"x", b"hello", "+OK", "-ERR", "-NOPROTO", [b"proto", 2], "+OK", b"me", True, True, "-ERR", "+OK",
+        "-WRONGPASS", 2, "+OK",
     ]  # fmt: skip
 
 
@@ -65,7 +68,7 @@ def try_node_user():
 def try_settings():
     """A wrong setting is refused, with its line if it stands in a file. So is a name too many for the table of commands."""
     found, names = [], "".join(f"take name{it}\n" for it in range(3000))
-    for text in ("node 127.0.0.1:1\nthreads none\n", "# a remark\n\nnode here\n", "nodes 127.0.0.1:1\n", "memory 3tb\n", names, "take GET\n", "take a|b\n"):
+    for text in ("node 127.0.0.1:1\nthreads none\n", "# a remark\n\nnode here\n", "nodes 127.0.0.1:1\n", "memory 3tb\n", "unix-mode 0690\n", names, "take GET\n", "take a|b\n"):
         with tempfile.NamedTemporaryFile("w") as file:
             file.write(text)
             file.flush()
@@ -75,8 +78,8 @@ def try_settings():
     found.append((run.returncode, run.stderr))
     print(found)
     numbers = [re.search(r"FILE:(\d+):", it[1]) for it in found[:-1]]
-    is_full = "take is one name too many" in found[4][1]
-    return is_full and [it and it.group(1) for it in numbers] == ["2", "3", "1", "1", "1025", "1", "1"] and all(it[0] == 2 for it in found)
+    is_full = "take is one name too many" in found[5][1]
+    return is_full and [it and it.group(1) for it in numbers] == ["2", "3", "1", "1", "1", "1025", "1", "1"] and all(it[0] == 2 for it in found)
 
 
 def try_figures():
@@ -111,16 +114,17 @@ def try_take():
 
 
 def try_unix():
-    """Clients can connect to a path."""
-    with tempfile.TemporaryDirectory() as folder, proxy(OTHER, PORT, "--unix", f"{folder}/proxy"):
+    """Clients can connect to a path, which has the permissions that are set, whatever the umask is."""
+    with tempfile.TemporaryDirectory() as folder, proxy(OTHER, PORT, "--unix", f"{folder}/proxy", "--unix-mode", "0662"):
         connection = socket.socket(socket.AF_UNIX)
         connection.connect(f"{folder}/proxy")
         connection.sendall(request("SET", "foo", "1") + request("GET", "foo"))
         found = b""
         while len(found) < 12:
             found += connection.recv(100)
-    print(found)
-    return found == b"+OK\r\n$1\r\n1\r\n"
+        mode = os.stat(f"{folder}/proxy").st_mode & 0o777
+    print(found, oct(mode))
+    return found == b"+OK\r\n$1\r\n1\r\n" and mode == 0o662
 
 
 def try_half_closed():
@@ -250,6 +254,33 @@ def try_subscription_order():
     print(mixed)
     mixed[2] = mixed[2][:9]
     return found == wanted and mixed == [b"1", [b"subscribe", b"a", 1], "-ERR only", [b"unsubscribe", b"a", 0], b"1"]
+
+
+def try_subscribed_first():
+    """Who subscribes and waits for no reply hears what another client publishes then, alone or in a transaction."""
+    publisher, heard = Client(), Counter()
+    ways = {
+        "alone": [["PUBLISH", "now", "x"]],
+        "queued": [["MULTI"], ["SET", "foo", "1"], ["PUBLISH", "now", "x"], ["EXEC"]],
+        "again": [["PUBLISH", "now", "x"]],
+    }
+    for at in range(150):
+        way = list(ways)[at % 3]
+        client = Client()
+        client.ask("PING")
+        client.socket.settimeout(2)
+        client.socket.setsockopt(socket.IPPROTO_TCP, socket.TCP_NODELAY, 1)
+        for words in (["SUBSCRIBE"], ["UNSUBSCRIBE"], ["SUBSCRIBE"])[: 3 if way == "again" else 1]:
+            client.socket.sendall(request(*words, "now"))
+        publisher.ask_all(ways[way])
+        try:
+            while client.reply()[0] != b"message":
+                pass
+            heard[way] += 1
+        except TimeoutError:
+            pass
+    print(dict(heard))
+    return heard["alone"] == heard["queued"] == heard["again"] == 50
 
 
 def try_subscription_storm():

@@ -62,7 +62,7 @@ assert client.delete("{sum}a", "{sum}b") == 2
 
 assert client.info()["maxmemory_policy"] == client.config_get()["maxmemory-policy"] and client.role()[0] == b"master"
 client.client_setname("me")
-assert [it["name"] for it in client.client_list()].count("me") == 1
+assert [it["name"] for it in client.client_list()].count("me") == 1 and client.client_info()["name"] == "me"
 
 other = redis.Redis(port={port}, db=1)
 try:

@@ -152,14 +152,20 @@ def try_drain():
     return found == b":7\r\n" and status == 0 and refused
 
 
+def is_steady(sizes):
+    """Whether the last three are no larger than those before them."""
+    return len(sizes) > 3 and max(sizes[-3:]) <= 1.02 * max(sizes[:-3])
+
+
 def try_back():
     """After many clients with pipelines have come and gone, descriptors and memory are what they were. Connections to replicas may
-    have come, since the map is read from each node in turn. The memory of the process is what the allocator keeps of it."""
+    have come, since the map is read from each node in turn. The memory of the process is what the allocator keeps of it: it grows
+    no more after some rounds."""
     with proxy(OTHER, PORT, "--metrics", f"127.0.0.1:{FIGURES + 1}") as (process, _, _):
         Client(OTHER).ask_all([["MSET", "a", "1", "b", "1", "c", "1"], ["MGET", "a", "b", "c"]])
         time.sleep(1.5)  # idle connections give back their memory after a second
         before, rounds = (descriptors_of(process), figures(FIGURES + 1)["memory_bytes"]), []
-        for _ in range(4):
+        while len(rounds) < 4 or not (IS_CHECKED or len(rounds) == 30 or is_steady([it[3] for it in rounds])):
             clients = [Client(OTHER) for _ in range(300)]
             for at, it in enumerate(clients):
                 it.socket.sendall(b"".join(request("MSET", f"a{at}", "x" * 2000, f"b{at}", "y") + request("MGET", f"a{at}", f"b{at}") for _ in range(20)))
@@ -172,7 +178,7 @@ def try_back():
             back = until(10, lambda: figures(FIGURES + 1)["memory_bytes"] < before[1] + 64000 and descriptors_of(process) <= before[0] + 6)
             rounds.append((back, descriptors_of(process), figures(FIGURES + 1)["memory_bytes"], memory_of(process)))
     print(f"before: {before}; seconds until all is back, descriptors, bytes held, kB of the process: {rounds}")
-    is_small = IS_CHECKED or rounds[-1][3] < rounds[0][3] * 1.3 + 2000
+    is_small = IS_CHECKED or is_steady([it[3] for it in rounds])
     return all(it[0] is not None for it in rounds) and is_small
 
 
@@ -230,7 +236,7 @@ class BadNode(socketserver.StreamRequestHandler):
         with suppress(OSError):
             while line := self.rfile.readline():
                 words = [(self.rfile.readline(), self.rfile.readline())[1][:-2] for _ in range(int(line[1:]))]
-                reply = slots if words[0] == b"CLUSTER" else b"$%d\r\n%s\r\n" % (len(words[1]), words[1])
+                reply = slots if words[0] == b"CLUSTER" else b"$%d\r\n%s\r\n" % (len(words[-1]), words[-1])
                 pick = rng.randrange(400) if words[0] == b"GET" else 0
                 if pick == 1:
                     reply = reply[: rng.randrange(len(reply))]

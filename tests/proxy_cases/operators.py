@@ -99,7 +99,7 @@ def try_log():
         is_kept = until(10, lambda: "signal 10" in read(log + ".1")) is not None and not os.path.exists(log)
         texts = renew(process, log), read(log + ".1")
     print(wrong.returncode, wrong.stderr, *texts)
-    return is_kept and wrong.returncode == 2 and "/none/log: No such file" in wrong.stderr and "read anew" in texts[0] and "slots" in texts[1]
+    return is_kept and wrong.returncode == 2 and "/none/log: No such file" in wrong.stderr and "read anew" in texts[0] and "slots" in texts[1] and f"listening at 127.0.0.1:{OTHER}" in texts[1]
 
 
 def try_logrotate():
@@ -260,7 +260,7 @@ def try_waiting():
 
 
 def try_ready():
-    """/healthz is well while the proxy runs, and /readyz while each slot has a node."""
+    """/healthz is well while the proxy runs, and /readyz while each slot has a node and one of the nodes answers."""
     socketserver.ThreadingTCPServer.allow_reuse_address = socketserver.ThreadingTCPServer.daemon_threads = True
     with socketserver.ThreadingTCPServer(("127.0.0.1", FAKE), Leaving) as node:
         threading.Thread(target=node.serve_forever).start()
@@ -275,11 +275,15 @@ def try_ready():
             Client(OTHER).ask("GET", "foo")
             back = until(20, lambda: page("/readyz", OTHER_FIGURES)[0] == 200)
             head = page("/metrics", OTHER_FIGURES, "HEAD")[::2], page("/metrics", OTHER_FIGURES, "POST")[0]
-        node.shutdown()
-    print(found, gone, served, back, head)
+            node.shutdown()
+            node.server_close()  # so that no node is left
+            Client(OTHER).ask("GET", "foo")
+            lost = until(20, lambda: page("/readyz", OTHER_FIGURES)[0] == 503), page("/readyz", OTHER_FIGURES)[2], page("/", OTHER_FIGURES)[2]
+    print(found, gone, served, back, head, lost[:2])
     first = [(200, "16384 of 16384 slots have a node\n"), (200, "16384 of 16384 slots have a node\n"), (404, "no such page\n"), (404, "no such page\n")]
     then = [(200, "16001 of 16384 slots have a node\n"), (503, "16001 of 16384 slots have a node\n"), (503, "")]
-    return found == first + then and served == 16001 and gone is not None and back is not None and head == ((200, ""), 404)
+    is_told = lost[0] is not None and lost[1] == "16384 of 16384 slots have a node, and no node answers\n" and "Not ready: 0 of 1" in lost[2]
+    return found == first + then and served == 16001 and None not in (gone, back) and head == ((200, ""), 404) and is_told
 
 
 class Tags(HTMLParser):

@@ -400,7 +400,7 @@ def try_order():
     second.append(client.ask("MGET", here, gone))
     finisher.join()
     print(f"when the move is found: {first}\nafter that: {second}")
-    is_kept = first[0].startswith("-TRYAGAIN") and first[1:] == ["+OK", b"2"]
+    is_kept = first[0].startswith("-TRYAGAIN the slot is being moved, and a later") and first[1:] == ["+OK", b"2"]
     return is_kept and second == ["+OK", "+OK", [b"4", b"3"]]
 
 
@@ -431,15 +431,15 @@ def try_password():
 
 
 class TwiceAnswering(socketserver.StreamRequestHandler):
-    """A node that has all slots, answers `GET` with the key, and answers `GET twice` two times."""
+    """A node that has all slots, answers `GET` with the key, as `INFO` with that word, and answers `GET twice` two times."""
 
     def handle(self):
         slots = b"*1\r\n*3\r\n:0\r\n:16383\r\n*2\r\n$9\r\n127.0.0.1\r\n:%d\r\n" % FAKE
         with suppress(OSError):  # the proxy resets the connection
             while line := self.rfile.readline():
                 words = [(self.rfile.readline(), self.rfile.readline())[1][:-2] for _ in range(int(line[1:]))]
-                reply = b"$%d\r\n%s\r\n" % (len(words[1]), words[1])
-                self.wfile.write(slots if words[0] == b"CLUSTER" else reply * (1 + (words[1] == b"twice")))
+                reply = b"$%d\r\n%s\r\n" % (len(words[-1]), words[-1])
+                self.wfile.write(slots if words[0] == b"CLUSTER" else reply * (1 + (words[-1] == b"twice")))
 
 
 def try_stray():

@@ -192,6 +192,8 @@ def try_storm_failover():
 
     def kill(over):
         over.wait(2)
+        os.kill(process, signal.SIGSTOP)
+        time.sleep(0.1)  # so that commands are on their way
         os.kill(process, signal.SIGKILL)
         print(f"killed {port}")
 
