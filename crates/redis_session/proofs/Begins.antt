@@ -3,7 +3,10 @@ use Rattle.std.proofs.Common.{◌≡◌, ◌≢◌, ◌<◌, ◌⊎◌, ◌++◌
 use Rattle.std.specs.Prelude.{slice_get}
 use Rattle.std.specs.List.{list_all}
 use Rattle.std.proofs.lemmas.Bool.Decides.{nat_tests}
+use Rattle.std.proofs.lemmas.List.{length-map}
 use Rattle.std.proofs.lemmas.Option.{same_Some}
+use Rattle.cluster_slots.specs.Address.{Address}
+use Rattle.redis_session.specs.Directory.{AreNumbersOf}
 use Rattle.session_core.specs.Part.{PartState, is_waiting, have_slot}
 use Rattle.session_core.specs.declared.part.PartOrder.{PartOrder}
 use Rattle.session_core.specs.declared.part.PartOrder.TheVariants.{OfSlot, Whole, Free}
@@ -42,6 +45,10 @@ several_begin {order = order} parts each some none = record {
   alike = alike order parts (is_ordered order) refl (λ i p at. (each i p at).order_is);
   full = λ i p at. rw ((each i p at).request_is) some;
 }
+
+-- each node has a number
+pub count_numbers : (numbers : List ℕ) (addresses nodes : List Address) → AreNumbersOf numbers addresses nodes → length numbers ≡ length addresses
+count_numbers numbers addresses nodes are = sym (length-map numbers (λ n. slice_get nodes n)) ∙ ap length are ∙ length-map addresses Some
 
 -- ---- parts of slots
 

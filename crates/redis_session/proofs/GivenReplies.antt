@@ -146,10 +146,10 @@ module _ {E : Type 0} (before now : SessionState) (call : ℕ) (state : CallStat
       (subst (λ (t : List ℕ). IsSplitReply (names now) t (answers_in state.parts) (bytes_of (given_of reply) now.machine)) is
       (given_bytes now.machine call (IsSplitReply (names now) text (answers_in state.parts)) reply given)))
 
-  pub several_there : (policy : ResponsePolicy) → rule_in now.rules call ≡ rules.Several policy → None ≡ first_unanswered state.parts
+  pub several_there : (policy : ResponsePolicy) (nodes : Vec ℕ Global) → rule_in now.rules call ≡ rules.Several policy nodes → None ≡ first_unanswered state.parts
       → IfOk result (GivesBytes call (IsReplyOfNodes policy (answers_in state.parts))) → IfOk result (HasReply now call)
-  several_there policy rule none gives = ok_as result (GivesBytes call (IsReplyOfNodes policy (answers_in state.parts))) (HasReply now call) gives
-      (λ reply given. made_by reply (rules.Several policy) rule none
+  several_there policy nodes rule none gives = ok_as result (GivesBytes call (IsReplyOfNodes policy (answers_in state.parts))) (HasReply now call) gives
+      (λ reply given. made_by reply (rules.Several policy nodes) rule none
       (given_bytes now.machine call (IsReplyOfNodes policy (answers_in state.parts)) reply given))
 
 -- ---- what a call has for a reply, after it went out

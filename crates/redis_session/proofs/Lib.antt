@@ -8,4 +8,6 @@ mod NodeTables
 mod OwnSlots
 mod PartLists
 mod Redirects
+mod Serving
+mod SlotNumbers
 mod TableNames

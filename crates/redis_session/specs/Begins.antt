@@ -10,9 +10,10 @@ use Rattle.session_core.specs.Part.{PartState, Waits, is_waiting}
 use Rattle.session_core.specs.State.{AreApart}
 use Rattle.session_core.specs.declared.part.PartOrder.{PartOrder}
 use Rattle.session_core.specs.declared.part.PartOrder.TheVariants.{OfSlot}
+use Rattle.redis_session.specs.Directory.{AreNumbersOf, Directory}
 use Rattle.redis_session.specs.Plans.{IsCallPlan}
 use Rattle.redis_session.specs.SessionStates.{SessionSettings, names_by}
-use Rattle.redis_session.specs.Table.{Table, group_in}
+use Rattle.redis_session.specs.Table.{group_in}
 use Rattle.redis_session.specs.declared.plan.CallParts.{CallParts}
 use Rattle.redis_session.specs.declared.plan.CallParts.TheVariants as plans
 use Rattle.redis_session.specs.declared.plan.CallPlan.{CallPlan}
@@ -57,28 +58,30 @@ has_slot other = false
 
 -- How many parts a command has that goes to these nodes. Without one it has a part that waits for a node.
 abbrev pub count_parts : List Address → ℕ
-count_parts nodes = max 1 (length nodes)
+count_parts nodes = max (length nodes) 1
 
 -- what a call asks by its plan, and how its reply is made
-abbrev pub IsErrandBy : Table → (retries : ℕ) → List ℕ → (may_refuse : Bool) → CallParts → ReplyRule → List PartState → Type 0
+abbrev pub IsErrandBy : Directory → (retries : ℕ) → List ℕ → (may_refuse : Bool) → CallParts → ReplyRule → List PartState → Type 0
 -- the request as it came, whose answer is the reply
-IsErrandBy table retries request may_refuse (plans.One order) rule parts = (rule ≡ rules.One)
+IsErrandBy directory retries request may_refuse (plans.One order) rule parts = (rule ≡ rules.One)
     × ((part : PartState) × (parts ≡ part ∷ []) × IsNewPart retries request order may_refuse part)
 -- one part for each slot, and the reply is that of a split command
-IsErrandBy table retries request may_refuse (plans.Split slots) rule parts =
+IsErrandBy directory retries request may_refuse (plans.Split slots) rule parts =
     ((bytes : Vec ℕ Global) × (rule ≡ rules.Split bytes) × (bytes.items ≡ request))
     × (parts ≡ map (new_slot_part may_refuse retries) slots.items)
 -- the request as it came for each node of the group, and the reply is made by the policy
-IsErrandBy table retries request may_refuse (plans.Several group policy order) rule parts = (rule ≡ rules.Several policy)
-    × (length parts ≡ count_parts (group_in group table)) × AreNewParts retries request order may_refuse parts
+IsErrandBy directory retries request may_refuse (plans.Several group policy order) rule parts =
+    (nodes : Vec ℕ Global) × (rule ≡ rules.Several policy nodes)
+    × AreNumbersOf nodes.items (group_in group directory.table) directory.nodes
+    × (length parts ≡ count_parts (group_in group directory.table)) × AreNewParts retries request order may_refuse parts
 
 -- The bytes are one request. These are the parts that its command asks, and the reply is made by this rule.
 --
 -- `MGET a b` is split: its parts ask `MGET a` and `MGET b`.
-pub record IsErrand (table : Table) (settings : SessionSettings) (request : List ℕ) (rule : ReplyRule)
+pub record IsErrand (directory : Directory) (settings : SessionSettings) (request : List ℕ) (rule : ReplyRule)
     (parts : List PartState) : Type 0 where
   pub words : Words
   pub read : IsRequest words request
   pub plan : CallPlan
   pub planned : IsCallPlan (names_by settings) settings.added words plan
-  pub by_plan : IsErrandBy table settings.retries request plan.may_refuse plan.parts rule parts
+  pub by_plan : IsErrandBy directory settings.retries request plan.may_refuse plan.parts rule parts

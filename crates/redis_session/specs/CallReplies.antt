@@ -58,7 +58,7 @@ IsReplyOfNodes policy answers reply =
 abbrev pub IsMadeBy : Names → ReplyRule → List (List ℕ) → List ℕ → Type 0
 IsMadeBy names rules.One answers reply = IsOnly answers reply
 IsMadeBy names (rules.Split request) answers reply = IsSplitReply names request.items answers reply
-IsMadeBy names (rules.Several policy) answers reply = IsReplyOfNodes policy answers reply
+IsMadeBy names (rules.Several policy nodes) answers reply = IsReplyOfNodes policy answers reply
 
 -- these bytes are given for this call, and are such
 abbrev pub GivesBytes : ℕ → (List ℕ → Type 0) → LastReply → Type 0

@@ -1,35 +1,34 @@
 -- What a session does by itself, between what its shell reports.
-use Rattle.std.specs.Prelude.{◌≡◌, ◌≢◌, ◌⊎◌, ◌++◌, ◌∷◌, [], ℕ, zero, suc, max, List, Bool, true, false, Some, not, ◌&&◌, ◌||◌, ◌==◌, bytes_eq, codes}
+use Rattle.std.specs.Prelude.{◌≡◌, ◌≢◌, ◌⊎◌, ◌++◌, ◌∷◌, [], ℕ, zero, suc, max, List, Bool, true, false, Option, None, Some, ◌||◌, ◌==◌, codes, length}
 use Rattle.std.specs.List.{list_all}
 use Rattle.session_core.specs.declared.link.Standing.{Standing}
 use Rattle.session_core.specs.declared.part.Cause.{Cause}
 use Rattle.session_core.specs.declared.part.Cause.TheVariants.{GivenUp, Late, NoNode, Overtaken}
+use Rattle.session_core.specs.declared.part.PartOrder.{PartOrder}
+use Rattle.session_core.specs.declared.part.PartOrder.TheVariants.{OfSlot}
 use Rattle.resp.specs.Forms.{request as request_of}
 use Rattle.session_core.specs.declared.link.Ticket.{Ticket}
-use Rattle.session_core.specs.declared.link.Ticket.TheVariants.{Login, Map}
+use Rattle.session_core.specs.declared.link.Ticket.TheVariants.{Login, Map, Part}
 use Rattle.session_core.specs.Channel.{Ask, Channel}
 use Rattle.session_core.specs.LinkEvents as link
-use Rattle.session_core.specs.State.{State, CallState, Event, Open, On, Forget, Begin, GiveUp, End, Finish, Leave, Trim, Happens, IsLink, Run, call_at}
+use Rattle.session_core.specs.State.{CallState, Event, Open, On, Forget, Begin, GiveUp, End, Finish, Leave, Trim, Happens, IsLink, call_at, part_at}
 use Rattle.session_core.specs.Part.{PartState, is_done}
 use Rattle.session_machine.specs.declared.took.Took.{Took}
 use Rattle.redis_session.specs.Begins.{IsErrand}
 use Rattle.redis_session.specs.CallReplies.{IsReplyTo}
 use Rattle.redis_session.specs.Deadlines.{Forgets, deadline_of, is_over}
-use Rattle.redis_session.specs.Learned.{Learns, LearnsTook}
-use Rattle.redis_session.specs.Rules.{KeepOthers, is_several, rule_in, without}
-use Rattle.redis_session.specs.SessionStates.{SessionSettings, SessionState, is_reply_of, names, last_reply, without_reply}
+use Rattle.redis_session.specs.Directory.{Directory, Grows, IsNodeOf}
+use Rattle.redis_session.specs.Learned.{Learns, LearnsOf, LearnsTook, Readies, ReadiesOf, ReadiesTook}
+use Rattle.redis_session.specs.Peers.{IsReadyTo, Peers, SetsPeer, peer_at}
+use Rattle.redis_session.specs.Rules.{KeepOthers, is_several, node_in, rule_in, without}
+use Rattle.redis_session.specs.SessionStates.{SessionState, is_reply_of, last_reply, names, without_reply}
 use Rattle.redis_session.specs.Table.{Table}
+use Rattle.redis_session.specs.declared.peers.Peer.{Peer}
+use Rattle.redis_session.specs.declared.rules.ReplyRule.{ReplyRule}
 
 -- the request for the map
 abbrev pub map_request : List ℕ
 map_request = request_of (codes "CLUSTER" ∷ codes "SLOTS" ∷ [])
-
--- What the session asks for itself has these bytes: its login, and the request for the map. The ticket of that has how
--- many `MOVED` the table had learned.
-abbrev pub is_own_ask : SessionSettings → Table → Ask → Bool
-is_own_ask settings table (Login, request) = bytes_eq request settings.login
-is_own_ask settings table (Map count, request) = (count == table.count) && bytes_eq request map_request
-is_own_ask settings table other = true
 
 -- A part of this call may be ended for this cause. It is late, or without a node, only if the time of the call is over. A
 -- command to several nodes is without a node as soon as one of them left the map.
@@ -39,37 +38,67 @@ may_end s call NoNode = is_over (deadline_of call s.deadlines) s.now || is_sever
 may_end s call Overtaken = true
 may_end s call GivenUp = true
 
+-- The node of this number serves a part of this order, whose call has this rule: the node of its slot, or the one of
+-- several nodes that the part is for. A part of neither kind is served by each node.
+abbrev pub IsNodeFor : Directory → ReplyRule → (part : ℕ) → PartOrder → ℕ → Type 0
+IsNodeFor directory rule part (OfSlot slot) node = IsNodeOf slot node directory
+IsNodeFor directory rule part other node = is_several rule ≡ true → node_in rule part ≡ Some node
+
+-- the node of this number serves the part
+abbrev pub Serves : SessionState → (call part node : ℕ) → Type 0
+Serves s call part node = (p : PartState) → part_at call part s.machine ≡ Some p
+    → IsNodeFor s.directory (rule_in s.rules call) part p.order node
+
+-- A part that is asked without `ASKING` is served by the node of this number.
+abbrev pub IsServedBy : SessionState → ℕ → List Ask → Type 0
+IsServedBy s node ((Part call part, request) ∷ []) = Serves s call part node
+IsServedBy s node other = Unit {0}
+
+-- Parts may be asked on the link, and its node serves what is asked.
+pub record IsReadyFor (s : SessionState) (number : ℕ) (asks : List Ask) : Type 0 where
+  pub node : ℕ
+  pub ready : IsReadyTo node number s.peers
+  pub serves : IsServedBy s node asks
+
+-- The session may ask this on a link by itself: a part, or the map. The ticket of that has how many `MOVED` were learned.
+abbrev pub IsOwnAsk : SessionState → ℕ → List Ask → Type 0
+IsOwnAsk s number ((Login, request) ∷ []) = ⊥
+IsOwnAsk s number ((Map count, request) ∷ []) = (count ≡ s.directory.table.count) × (request ≡ map_request)
+    × IsReadyFor s number ((Map count, request) ∷ [])
+IsOwnAsk s number asks = IsReadyFor s number asks
+
 -- The session may do this by itself: it asks, ends parts and forgets. It does not forget the call of the last reply.
 -- Replies on links are taken as the shell reads them. All else is reported by the shell: that a connection is there or
 -- ended, what was written and read, that a caller asks something, takes a reply or waits no more.
-abbrev pub is_own : SessionState → Event → Bool
-is_own s (On number (link.Put asks)) = list_all (is_own_ask s.settings s.table) asks
-is_own s (On number (link.Break cause)) = true
-is_own s (On number (link.Lose ticket begun)) = true
-is_own s (Forget number) = true
-is_own s (End call part cause) = may_end s call cause
-is_own s (Leave call) = not (is_reply_of call s.given)
-is_own s Trim = true
-is_own s other = false
+abbrev pub IsOwn : SessionState → Event → Type 0
+IsOwn s (On number (link.Put asks)) = IsOwnAsk s number asks
+IsOwn s (On number (link.Break cause)) = Unit {0}
+IsOwn s (On number (link.Lose ticket begun)) = Unit {0}
+IsOwn s (Forget number) = Unit {0}
+IsOwn s (End call part cause) = may_end s call cause ≡ true
+IsOwn s (Leave call) = is_reply_of call s.given ≡ false
+IsOwn s Trim = Unit {0}
+IsOwn s other = ⊥
 
 -- This happens to the links and calls of a session, and nothing else of it changes.
 pub record Does (event : Event) (old new : SessionState) : Type 0 where
   pub happens : Happens old.machine event new.machine
   pub others : new ≡ record old { machine = new.machine }
 
+-- The session does these things by itself, one after the other.
+abbrev pub Acts : SessionState → List Event → SessionState → Type 0
+Acts old [] new = new ≡ old
+Acts old (event ∷ events) new = (mid : SessionState) × Does event old mid × IsOwn old event × Acts mid events new
+
 -- Steps of its own lead from one state to the other.
 pub record Leads (old new : SessionState) : Type 0 where
   pub events : List Event
-  pub own : list_all (is_own old) events ≡ true
-  pub run : Run old.machine events new.machine
-  -- the last reply and the settings stay
-  pub others : new ≡ record old { machine = new.machine }
+  pub acts : Acts old events new
 
--- The shell reports this, and then the session goes on by itself.
-pub record Reports (event : Event) (old new : SessionState) : Type 0 where
-  pub mid : SessionState
-  pub reported : Does event old mid
-  pub leads : Leads mid new
+-- The session may come to know more nodes. Nothing else changes.
+pub record Knows (old new : SessionState) : Type 0 where
+  pub nodes : Grows old.directory.nodes new.directory.nodes
+  pub others : new ≡ record old { directory = record old.directory { nodes = new.directory.nodes } }
 
 -- The shell says that it is this time. The session notes it, unless the time that it noted before is later. Then the
 -- session goes on by itself.
@@ -88,30 +117,30 @@ IsOpen s number = IsLinkThat s number (λ standing. standing ≡ Standing.Open)
 abbrev pub IsConnected : SessionState → ℕ → Type 0
 IsConnected s number = IsLinkThat s number (λ standing. standing ≢ Standing.Ended)
 
--- A reply is taken on this link. The table learns of it or stays, and the session goes on by itself.
+-- A reply is taken on this link. The session learns of it, and goes on by itself.
 pub record TakesReply (number : ℕ) (old new : SessionState) : Type 0 where
   pub ticket : Ticket
   pub reply : List ℕ
-  pub machine : State
-  pub taken : Happens old.machine (On number (link.Take ticket reply)) machine
-  pub table : Table
-  pub learns : Learns machine ticket reply old.table table ⊎ (table ≡ old.table)
-  pub leads : Leads (record old { machine = machine; table = table }) new
+  pub mid : SessionState
+  pub taken : Does (On number (link.Take ticket reply)) old mid
+  pub wiser : SessionState
+  pub learns : Learns (LearnsOf mid.machine ticket reply) (ReadiesOf number ticket reply) mid wiser
+  pub leads : Leads wiser new
 
 -- so many, one after the other
 abbrev pub TakesReplies : (count : ℕ) → ℕ → SessionState → SessionState → Type 0
 TakesReplies zero number old new = new ≡ old
 TakesReplies (suc count) number old new = (mid : SessionState) × TakesReply number old mid × TakesReplies count number mid new
 
--- The table learns this or stays, and then the session goes on by itself.
-pub record LeadsBy (How : Table → Table → Type 0) (old new : SessionState) : Type 0 where
-  pub table : Table
-  pub learns : How old.table table ⊎ (table ≡ old.table)
-  pub leads : Leads (record old { table = table }) new
+-- The session learns this, and goes on by itself.
+pub record LearnsThen (HowTable : Table → Table → Type 0) (HowPeers : Peers → Peers → Type 0) (old new : SessionState) : Type 0 where
+  pub wiser : SessionState
+  pub learns : Learns HowTable HowPeers old wiser
+  pub leads : Leads wiser new
 
--- What was taken is noted: the table learns of it or stays, and the session goes on by itself.
-abbrev pub Notes : Took → SessionState → SessionState → Type 0
-Notes took old new = LeadsBy (LearnsTook old.machine took) old new
+-- What was taken on this link is noted: the session learns of it, and goes on by itself.
+abbrev pub Notes : ℕ → Took → SessionState → SessionState → Type 0
+Notes number took old new = LearnsThen (LearnsTook old.machine took) (ReadiesTook number took) old new
 
 -- Replies are taken on this link, and then the session goes on by itself.
 pub record TakesAll (number : ℕ) (old new : SessionState) : Type 0 where
@@ -130,26 +159,52 @@ pub record Hears (number : ℕ) (bytes : List ℕ) (old new : SessionState) : Ty
 abbrev pub HearsNot : ℕ → List ℕ → SessionState → SessionState → Type 0
 HearsNot number bytes old new = Hears number bytes old new ⊎ Does (On number link.Miss) old new
 
--- The connection of a link ended. If there was none, the session goes on by itself.
+-- Parts may be asked on the link now, if this reply to its login is no error. Nothing else changes.
+pub record Hails (number : ℕ) (reply : List ℕ) (old new : SessionState) : Type 0 where
+  pub peers : Readies number reply old.peers new.peers ⊎ (new.peers ≡ old.peers)
+  pub others : new ≡ record old { peers = new.peers }
+
+-- The link has this peer now, or none. Nothing else changes.
+pub record SetsPeerOf (number : ℕ) (peer : Option Peer) (old new : SessionState) : Type 0 where
+  pub peers : SetsPeer number peer old.peers new.peers
+  pub others : new ≡ record old { peers = new.peers }
+
+-- The peer of the link may have changed. Nothing else changes.
+pub record ChangesPeer (number : ℕ) (old new : SessionState) : Type 0 where
+  pub peers : (other : ℕ) → other ≢ number → peer_at other new.peers ≡ peer_at other old.peers
+  pub others : new ≡ record old { peers = new.peers }
+
+-- The connection of a link ended, if there was one. The link has no peer then, and the session goes on by itself.
 pub record Ends (number : ℕ) (old new : SessionState) : Type 0 where
-  pub ends : IsConnected old number → Reports (On number link.End) old new
-  pub none : (IsConnected old number → ⊥) → Leads old new
+  pub mid : SessionState
+  pub ends : IsConnected old number → Happens old.machine (On number link.End) mid.machine
+  pub none : (IsConnected old number → ⊥) → mid.machine ≡ old.machine
+  pub others : mid ≡ record old { machine = mid.machine }
+  pub alone : SessionState
+  pub leaves : SetsPeerOf number None mid alone
+  pub leads : Leads alone new
 
 -- A link was opened. No reply on it may be longer than the settings say.
 abbrev pub IsOpened : ℕ → SessionState → SessionState → Type 0
 IsOpened number old new = Does (Open number old.settings.most_reply_bytes) old new
 
 -- The link begins with the login, if there is one.
-abbrev pub BeginsLink : ℕ → SessionState → SessionState → Type 0
-BeginsLink number old new = ((old.settings.login ≡ []) × (new ≡ old))
+abbrev pub AsksLogin : ℕ → SessionState → SessionState → Type 0
+AsksLogin number old new = ((old.settings.login ≡ []) × (new ≡ old))
     ⊎ Does (On number (link.Put ((Login, old.settings.login) ∷ []))) old new
 
--- A link was opened, which begins with the login. Then the session goes on by itself.
-pub record Opens (number : ℕ) (old new : SessionState) : Type 0 where
+-- The link is one to this node. Parts may be asked on it at once, or it begins with the login, if there is one.
+pub record BeginsLink (number node : ℕ) (old new : SessionState) : Type 0 where
+  pub joint : SessionState
+  pub joins : SetsPeerOf number (Some (record { node = node; is_ready = length old.settings.login == 0 })) old joint
+  pub asks : AsksLogin number joint new
+
+-- A link to this node was opened. Then the session goes on by itself.
+pub record Opens (number node : ℕ) (old new : SessionState) : Type 0 where
   pub mid : SessionState
   pub opened : IsOpened number old mid
   pub ready : SessionState
-  pub begins : BeginsLink number mid ready
+  pub begins : BeginsLink number node mid ready
   pub leads : Leads ready new
 
 -- A link was opened and ended again, or nothing changed.
@@ -171,7 +226,7 @@ pub record BeginsCall (caller : ℕ) (request : List ℕ) (deadline call : ℕ) 
   pub mid : SessionState
   pub parts : List PartState
   pub adds : AddsCall call caller deadline parts old mid
-  pub errand : IsErrand old.table old.settings request (rule_in mid.rules call) parts
+  pub errand : IsErrand old.directory old.settings request (rule_in mid.rules call) parts
   pub leads : Leads mid new
 
 -- Each part of a call is done, or its time is over.

@@ -1,5 +1,5 @@
 -- What a session learns of the nodes that serve slots, and of whom.
-use Rattle.std.specs.Prelude.{◌≡◌, ◌⊎◌, ◌++◌, ℕ, true, List, Option, Some, Result, Ok, codes}
+use Rattle.std.specs.Prelude.{◌≡◌, ◌⊎◌, ◌++◌, ℕ, true, false, List, Option, Some, Result, Ok, codes}
 use Rattle.resp.specs.Forms.{crlf}
 use Rattle.resp_core.specs.Reply.{Reply}
 use Rattle.cluster_slots.specs.Address.{Address}
@@ -9,14 +9,18 @@ use Rattle.redis_routing.specs.declared.info.Redirect.{Redirect}
 use Rattle.redis_routing.specs.declared.info.Redirect.TheVariants.{Moved}
 use Rattle.redis_bytes.specs.Replies.{IsReply}
 use Rattle.session_core.specs.declared.link.Ticket.{Ticket}
-use Rattle.session_core.specs.declared.link.Ticket.TheVariants.{Map, Part}
+use Rattle.session_core.specs.declared.link.Ticket.TheVariants.{Login, Map, Part}
 use Rattle.session_core.specs.declared.part.PartOrder.TheVariants.{OfSlot}
 use Rattle.session_core.specs.declared.ordered_part.Seat.{Seat}
 use Rattle.session_core.specs.Part.{PartState, Refused, is_refusal}
 use Rattle.session_core.specs.State.{State, part_at}
 use Rattle.session_machine.specs.declared.took.Took.{Took}
 use Rattle.session_machine.specs.declared.took.Took.TheVariants as took
+use Rattle.redis_session.specs.Directory.{Grows}
+use Rattle.redis_session.specs.Peers.{Peers, SetsPeer, peer_at}
 use Rattle.redis_session.specs.SessionStates.{SessionState}
+use Rattle.redis_session.specs.SplitReplies.{is_error}
+use Rattle.redis_session.specs.declared.peers.Peer.{Peer}
 use Rattle.redis_session.specs.Table.{IsUsable, LearnsMap, LearnsMoved, Table}
 
 -- The error sends a part of this slot on: `-MOVED 3300 n3:1`. The host may be left out, as in `-MOVED 3300 :1`. Then it is
@@ -54,17 +58,38 @@ abbrev pub LearnsReplyOf : (asked : ℕ) → List ℕ → Table → Table → Ty
 LearnsReplyOf asked reply old new = (host : List ℕ) × LearnsReply asked host reply old new
 
 -- what a table learns of the reply for this ticket
-abbrev pub Learns : State → Ticket → List ℕ → Table → Table → Type 0
-Learns s (Map asked) reply old new = LearnsReplyOf asked reply old new
-Learns s (Part call part) reply old new = LearnsRedirect call part reply s old new
-Learns s other reply old new = ⊥
+abbrev pub LearnsOf : State → Ticket → List ℕ → Table → Table → Type 0
+LearnsOf s (Map asked) reply old new = LearnsReplyOf asked reply old new
+LearnsOf s (Part call part) reply old new = LearnsRedirect call part reply s old new
+LearnsOf s other reply old new = ⊥
+
+-- Parts may be asked on the link now, since the reply to its login is no error.
+pub record Readies (link : ℕ) (reply : List ℕ) (old new : Peers) : Type 0 where
+  pub peer : Peer
+  pub peer_is : peer_at link old ≡ Some peer
+  pub accepted : is_error reply ≡ false
+  pub sets : SetsPeer link (Some (record peer { is_ready = true })) old new
+
+-- what becomes of the peers with the reply for this ticket on this link
+abbrev pub ReadiesOf : ℕ → Ticket → List ℕ → Peers → Peers → Type 0
+ReadiesOf link Login reply old new = Readies link reply old new
+ReadiesOf link other reply old new = ⊥
+
+-- The session may come to know nodes. The table learns this and the peers change so, or they stay. Nothing else changes.
+pub record Learns (HowTable : Table → Table → Type 0) (HowPeers : Peers → Peers → Type 0) (old new : SessionState) : Type 0 where
+  pub nodes : Grows old.directory.nodes new.directory.nodes
+  pub table : HowTable old.directory.table new.directory.table ⊎ (new.directory.table ≡ old.directory.table)
+  pub peers : HowPeers old.peers new.peers ⊎ (new.peers ≡ old.peers)
+  pub others : new ≡ record old { directory = new.directory; peers = new.peers }
 
 -- ---- as functions take it
 
--- the table learns this, or nothing changes
-pub record Sets (How : Table → Table → Type 0) (old new : SessionState) : Type 0 where
-  pub learns : How old.table new.table ⊎ (new.table ≡ old.table)
-  pub others : new ≡ record old { table = new.table }
+abbrev pub NoPeers : Peers → Peers → Type 0
+NoPeers old new = ⊥
+
+-- the session may come to know nodes, and the table learns this or stays
+abbrev pub Sets : (Table → Table → Type 0) → SessionState → SessionState → Type 0
+Sets How old new = Learns How NoPeers old new
 
 -- where a part is sent on, as the table learns it
 abbrev pub LearnsTold : {E : Type 0} → Result (Option (ℕ × Redirect)) E → Table → Table → Type 0
@@ -82,3 +107,8 @@ LearnsTook s (took.Kept seat) old new = LearnsKept seat s old new
 LearnsTook s (took.Back seat reply) old new = LearnsRedirect seat.call seat.part reply.items s old new
 LearnsTook s (took.Map asked reply) old new = LearnsReplyOf asked reply.items old new
 LearnsTook s other old new = ⊥
+
+-- what becomes of the peers with what was taken on this link
+abbrev pub ReadiesTook : ℕ → Took → Peers → Peers → Type 0
+ReadiesTook link (took.Login reply) old new = Readies link reply.items old new
+ReadiesTook link other old new = ⊥

@@ -10,8 +10,11 @@ pub mod Begins
 pub mod CallReplies
 pub mod CommandKinds
 pub mod Deadlines
+pub mod Directory
+pub mod Inner
 pub mod Leads
 pub mod Learned
+pub mod Peers
 pub mod Plans
 pub mod Refusals
 pub mod Rules
@@ -20,4 +23,5 @@ pub mod SessionView
 pub mod SharedNames
 pub mod SplitReplies
 pub mod Table
+pub mod Targets
 pub mod Told

@@ -1,5 +1,5 @@
 -- How the replies to calls are made.
-use Rattle.std.specs.Prelude.{◌≡◌, ◌≢◌, ℕ, Bool, true, false, List, Option, None, Some}
+use Rattle.std.specs.Prelude.{◌≡◌, ◌≢◌, ℕ, Bool, true, false, List, Option, None, Some, slice_get}
 use Rattle.std.specs.BTreeMap.{is_at}
 use Rattle.std.specs.Map.{lookup, remove_entry}
 use Rattle.std.specs.Ordering.{nat_cmp}
@@ -24,8 +24,13 @@ without call kept = remove_entry (is_at (nat_cmp call)) kept
 
 -- the reply is made of those of several nodes
 abbrev pub is_several : ReplyRule → Bool
-is_several (Several policy) = true
+is_several (Several policy nodes) = true
 is_several other = false
+
+-- the node that a call of this rule asks its part of this number at, if the map had one
+abbrev pub node_in : ReplyRule → ℕ → Option ℕ
+node_in (Several policy nodes) part = slice_get nodes.items part
+node_in other part = None
 
 -- each other call has the rule that it had
 abbrev pub KeepOthers : ℕ → KeptRules → KeptRules → Type 0

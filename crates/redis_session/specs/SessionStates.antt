@@ -6,8 +6,9 @@ use Rattle.redis_routing.specs.Names.{Names, names_of}
 use Rattle.redis_routing.specs.Registry.{Registrations}
 use Rattle.redis_session.specs.Added.{Added}
 use Rattle.redis_session.specs.Deadlines.{Deadlines}
+use Rattle.redis_session.specs.Directory.{Directory}
+use Rattle.redis_session.specs.Peers.{Peers}
 use Rattle.redis_session.specs.Rules.{KeptRules}
-use Rattle.redis_session.specs.Table.{Table}
 use Rattle.redis_session.specs.Told.{error_reply, unfit_reply}
 use Rattle.redis_session.specs.declared.session.replying.LastReply.{LastReply}
 use Rattle.redis_session.specs.declared.session.replying.LastReply.TheVariants as last
@@ -65,21 +66,24 @@ pub record SessionState : Type 0 where
   -- how the replies to its calls are made
   pub rules : KeptRules
   pub given : Given
-  -- which node serves each slot
-  pub table : Table
+  -- the nodes that it knows, and which of them serves each slot
+  pub directory : Directory
+  -- the node at the other end of each link
+  pub peers : Peers
   -- when the times of its calls are over
   pub deadlines : Deadlines
   -- the time that was noted last
   pub now : ℕ
   pub settings : SessionSettings
 
--- a session of no links and no calls, which knows no node of a slot, with these settings
+-- a session of no links and no calls, which knows no node, with these settings
 abbrev pub new_session : SessionSettings → SessionState
 new_session settings = record {
   machine = start;
   rules = [];
   given = Nothing;
-  table = record { map = []; moved = []; count = 0 };
+  directory = record { nodes = []; table = record { map = []; moved = []; count = 0 } };
+  peers = [];
   deadlines = [];
   now = 0;
   settings = settings;

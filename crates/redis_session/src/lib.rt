@@ -26,9 +26,11 @@
 
 mod added;
 mod call_deadlines;
+mod directory;
 mod kind;
 mod nodes;
 mod number_queue;
+mod peers;
 mod plain_names;
 mod plan;
 mod refusal;

@@ -1,12 +1,7 @@
 //! The nodes that a session knows, and its links to them.
 
 use crate::number_queue::NumberQueue;
-use cluster_map::NodeAddress;
 use std::alloc::{AllocError, Global};
-use std::collections::BTreeMap;
-
-/// How many nodes a session knows at most.
-const MOST_NODES: usize = 65534;
 
 /// The link to a node, as far as there is one.
 #[derive(Clone, Copy, Debug, PartialEq, Eq)]
@@ -22,42 +17,30 @@ pub(crate) enum NodeLink {
 /// What is known of a link.
 #[derive(Clone, Copy, Debug)]
 struct LinkRecord {
-    node: Option<usize>,
     /// Whether a reply came, other than that to the login.
     has_replied: bool,
     /// If it owes a reply and is not fresh: when its silence began.
     silent_since: u64,
 }
 
-/// The number of slots.
-const SLOT_COUNT: usize = 16384;
-
-/// Stands in the place of a node's number if that is not known. It is above each number.
-const NO_NODE: u16 = 65535;
-
 const NO_LINK: LinkRecord = LinkRecord {
-    node: None,
     has_replied: false,
     silent_since: 0,
 };
 
 /// A node that the session knows.
-#[derive(Drop)]
+#[derive(Clone, Copy, Debug)]
 struct Node {
-    address: NodeAddress,
     link: NodeLink,
     /// The number of the last map that had it.
     last_map: u64,
 }
 
-/// The nodes that a session knows, by numbers that stay, and its links. Each function takes constant time, or
-/// logarithmic time if it takes an address. [`Nodes::begin_silences`] takes a step for each link that is fresh.
+/// How the nodes stand that a session knows, and its links. Each function takes constant time, but
+/// [`Nodes::begin_silences`] takes a step for each link that is fresh.
 #[derive(Drop)]
 pub(crate) struct Nodes {
     nodes: Vec<Node>,
-    numbers: BTreeMap<NodeAddress, usize>,
-    /// The number of the node of each slot, as far as it was looked up since the last change. It may be empty.
-    by_slot: Vec<u16>,
     /// How many maps were learned.
     map_count: u64,
     /// The nodes that need a link and were not named to the shell yet.
@@ -87,8 +70,6 @@ impl Nodes {
     pub(crate) fn new(alloc: Global) -> Nodes {
         Nodes {
             nodes: Vec::new(alloc),
-            numbers: BTreeMap::new(alloc),
-            by_slot: Vec::new(alloc),
             map_count: 0,
             wanted: NumberQueue::new(alloc),
             busy: NumberQueue::new(alloc),
@@ -108,86 +89,39 @@ impl Nodes {
         self.nodes.len()
     }
 
-    /// The number of a node, if it is known.
-    pub(crate) fn number(&self, address: &NodeAddress) -> Option<usize> {
-        self.numbers.get(address).copied()
-    }
-
-    /// Adds a node that is not known. Returns its number, or `None` if there are too many.
+    /// Makes room for a node of this number, the next one.
     ///
     /// # Errors
     ///
     /// If memory runs out. Nothing changes then.
-    pub(crate) fn add(&mut self, address: &NodeAddress) -> Result<Option<usize>, AllocError> {
-        let number = self.nodes.len();
-        if number >= MOST_NODES {
-            return Ok(None);
-        }
+    pub(crate) fn make_room_for_node(&mut self, number: usize) -> Result<(), AllocError> {
         self.wanted.make_room(number)?;
         self.busy.make_room(number)?;
         self.ready.make_room(number)?;
         self.nodes.reserve(1)?;
-        let node = Node {
-            address: address.clone()?,
+        Ok(())
+    }
+
+    /// Adds the next node, which has no link. There is room for it.
+    pub(crate) fn add(&mut self) {
+        let _ = self.nodes.push(Node {
             link: NodeLink::Missing,
             last_map: 0,
-        };
-        self.numbers.insert(address.clone()?, number)?;
-        self.nodes.push(node)?;
-        Ok(Some(number))
-    }
-
-    /// The address of a node.
-    pub(crate) fn address(&self, node: usize) -> Option<&NodeAddress> {
-        Some(&self.nodes.get(node)?.address)
-    }
-
-    /// The number of the node of a slot, if it was noted.
-    pub(crate) fn node_of_slot(&self, slot: u16) -> Option<usize> {
-        let node = *self.by_slot.get(slot as usize)?;
-        if node == NO_NODE {
-            None
-        } else {
-            Some(node as usize)
-        }
-    }
-
-    /// Notes the number of the node of a slot, if there is memory for that.
-    pub(crate) fn note_slot(&mut self, slot: u16, node: usize) {
-        if self.by_slot.is_empty() && self.by_slot.resize(SLOT_COUNT, NO_NODE).is_err() {
-            return;
-        }
-        if let (Some(at), Ok(node)) = (self.by_slot.get_mut(slot as usize), u16::try_from(node)) {
-            *at = node;
-        }
-    }
-
-    /// Forgets the node of a slot.
-    pub(crate) fn forget_slot(&mut self, slot: u16) {
-        if let Some(at) = self.by_slot.get_mut(slot as usize) {
-            *at = NO_NODE;
-        }
-    }
-
-    /// Forgets the node of each slot.
-    pub(crate) fn forget_slots(&mut self) {
-        self.by_slot.fill(NO_NODE);
+        });
     }
 
     /// Notes that a map was learned, which has these nodes.
-    pub(crate) fn note_map(&mut self, addresses: &[&NodeAddress]) {
+    pub(crate) fn note_map(&mut self, nodes: &[usize]) {
         self.map_count = self.map_count.saturating_add(1);
-        for address in addresses {
-            if let Some(node) = self.number(address) {
-                self.note_in_map(node);
-            }
-        }
+        self.note_in_map(nodes);
     }
 
-    /// Notes that the last map has a node.
-    pub(crate) fn note_in_map(&mut self, node: usize) {
-        if let Some(at) = self.nodes.get_mut(node) {
-            at.last_map = self.map_count;
+    /// Notes that the last map has these nodes.
+    pub(crate) fn note_in_map(&mut self, nodes: &[usize]) {
+        for node in nodes {
+            if let Some(at) = self.nodes.get_mut(*node) {
+                at.last_map = self.map_count;
+            }
         }
     }
 
@@ -204,21 +138,6 @@ impl Nodes {
         match self.nodes.get(node) {
             Some(node) => node.link,
             None => NodeLink::Missing,
-        }
-    }
-
-    /// The node of a link.
-    pub(crate) fn node_of(&self, link: usize) -> Option<usize> {
-        self.links.get(link)?.node
-    }
-
-    /// The node to which a link is opening, whose login is not answered.
-    pub(crate) fn opening_node(&self, link: usize) -> Option<usize> {
-        let node = self.node_of(link)?;
-        if self.link(node) == NodeLink::Opening(link) {
-            Some(node)
-        } else {
-            None
         }
     }
 
@@ -243,11 +162,6 @@ impl Nodes {
             NodeLink::Missing => false,
             NodeLink::Opening(own) | NodeLink::Ready(own) => own == link,
         }
-    }
-
-    /// The address of the node of a link.
-    pub(crate) fn address_of_link(&self, link: usize) -> Option<&NodeAddress> {
-        self.address(self.node_of(link)?)
     }
 
     /// Makes room for a link of this number.
@@ -276,9 +190,9 @@ impl Nodes {
         self.ready.remove(node);
         match link {
             NodeLink::Missing => self.leave(node),
-            NodeLink::Opening(number) => self.join(node, number),
-            NodeLink::Ready(number) => {
-                self.join(node, number);
+            NodeLink::Opening(_) => self.busy.push_back(node),
+            NodeLink::Ready(_) => {
+                self.busy.push_back(node);
                 self.ready.push_back(node);
             }
         }
@@ -292,16 +206,8 @@ impl Nodes {
         }
     }
 
-    /// Notes that a link is the one to a node.
-    fn join(&mut self, node: usize, link: usize) {
-        self.busy.push_back(node);
-        if let Some(at) = self.links.get_mut(link) {
-            at.node = Some(node);
-        }
-    }
-
-    /// Notes that a link is to be closed. Its node has no link then.
-    pub(crate) fn note_closing(&mut self, link: usize) {
+    /// Notes that a link to a node is to be closed. The node has no link then.
+    pub(crate) fn note_closing(&mut self, link: usize, node: Option<usize>) {
         if self.closing.contains(link) {
             return;
         }
@@ -309,7 +215,7 @@ impl Nodes {
         self.fresh.remove(link);
         self.owing.remove(link);
         self.to_write.remove(link);
-        self.forget_link_of(self.node_of(link), link);
+        self.forget_link_of(node, link);
     }
 
     /// The first link that is to be closed.
@@ -317,17 +223,16 @@ impl Nodes {
         self.closing.first()
     }
 
-    /// Notes that a link ended. Returns its node.
-    pub(crate) fn drop_link(&mut self, link: usize) -> Option<usize> {
+    /// Notes that a link to a node ended.
+    pub(crate) fn drop_link(&mut self, link: usize, node: Option<usize>) {
         self.closing.remove(link);
         self.fresh.remove(link);
         self.owing.remove(link);
         self.to_write.remove(link);
-        let at = self.links.get_mut(link)?;
-        let node = at.node;
-        *at = NO_LINK;
+        if let Some(at) = self.links.get_mut(link) {
+            *at = NO_LINK;
+        }
         self.forget_link_of(node, link);
-        node
     }
 
     /// Names a link on which something was asked, each once after that.
@@ -426,12 +331,12 @@ impl Nodes {
         self.ready.first().is_some()
     }
 
-    /// The ready link of the node whose turn it is to be asked for the map, if a link is ready.
-    pub(crate) fn next_ready(&mut self) -> Option<usize> {
+    /// The node whose turn it is to be asked for the map, and its link, if a link is ready.
+    pub(crate) fn next_ready(&mut self) -> Option<(usize, usize)> {
         let node = self.ready.first()?;
         self.ready.push_back(node);
         match self.link(node) {
-            NodeLink::Ready(link) => Some(link),
+            NodeLink::Ready(link) => Some((node, link)),
             NodeLink::Opening(_) | NodeLink::Missing => None,
         }
     }

@@ -65,7 +65,7 @@ fn first_error(answers: &[Vec<u8>]) -> Option<&[u8]>
 }
 
 /// Whether a reply is an error.
-fn is_error(reply: &[u8]) -> bool
+pub(crate) fn is_error(reply: &[u8]) -> bool
     ensures { result ≡ is_error reply.now }
 {
     match reply {

@@ -1,7 +1,7 @@
 //! How the replies to calls are made.
 
-ghost use Rattle.std.specs.Prelude.{◌≡◌, [], OnOk, OnErr, option_copied};
-ghost use Rattle.redis_session.specs.Rules.{KeepOthers, is_several, rule_in, rule_or_one, without};
+ghost use Rattle.std.specs.Prelude.{◌≡◌, [], false, IfSome, IfNone, OnOk, OnErr, option_copied};
+ghost use Rattle.redis_session.specs.Rules.{KeepOthers, is_several, node_in, rule_in, rule_or_one, without};
 
 use redis_routing::ResponsePolicy;
 use std::alloc::{AllocError, Global};
@@ -15,8 +15,8 @@ pub(crate) enum ReplyRule {
     One,
     /// As for this request, which is split by slot.
     Split(Vec<u8>),
-    /// By this policy.
-    Several(ResponsePolicy),
+    /// By this policy, of the answers of the nodes of these numbers. Each has one part, in this order.
+    Several(ResponsePolicy, Vec<usize>),
 }
 
 /// The rules of the calls that are owed a reply, by their numbers. One that is not kept is `One`, so calls of one part
@@ -77,7 +77,19 @@ impl Rules {
     pub(crate) fn is_several(&self, call: u64) -> bool
         ensures { result ≡ is_several (rule_in self.now call) }
     {
-        matches!(self.rows.get(&call), Some(ReplyRule::Several(_)))
+        matches!(self.rows.get(&call), Some(ReplyRule::Several(_, _)))
+    }
+
+    /// The node of a part, if its call goes to several nodes: the number of the node, or none if the map had no node.
+    /// O(log n).
+    pub(crate) fn node_of(&self, call: u64, part: usize) -> Option<Option<usize>>
+        ensures some { IfSome result (λ node. node ≡ node_in (rule_in self.now call) part) }
+        ensures none { IfNone result (is_several (rule_in self.now call) ≡ false) }
+    {
+        match self.rows.get(&call) {
+            Some(ReplyRule::Several(_, nodes)) => Some(nodes.get(part).copied()),
+            _ => None,
+        }
     }
 
     /// Forgets the rule of a call.

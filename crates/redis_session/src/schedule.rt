@@ -31,16 +31,10 @@ pub(crate) enum Room {
 /// Where a part is asked.
 #[derive(Clone, Copy, Debug)]
 pub(crate) enum Target {
-    /// At the primary of this slot.
-    Slot(u16),
+    /// At a node that serves it.
+    Serving,
     /// At the node of this number, after `ASKING`.
     Asking(usize),
-    /// At the node of this number.
-    Node(usize),
-    /// At any node with a link.
-    Any,
-    /// At no node: the command goes to several, and the map has none.
-    Nobody,
 }
 
 /// Parts that wait for one thing, in the order in which they came.
@@ -62,13 +56,6 @@ pub(crate) struct PartRecord {
     redirect_count: u32,
 }
 
-/// Where the parts of a call are asked. One takes no memory.
-#[derive(Debug, Drop)]
-pub(crate) struct Targets {
-    first: Option<Target>,
-    others: Vec<Target>,
-}
-
 /// A call that is to be added.
 #[derive(Debug, Drop)]
 pub(crate) struct NewCall {
@@ -76,7 +63,7 @@ pub(crate) struct NewCall {
     pub(crate) deadline: u64,
     /// How many bytes its request has.
     pub(crate) bytes: usize,
-    pub(crate) targets: Targets,
+    pub(crate) part_count: usize,
 }
 
 /// Where the deadline of a call stands.
@@ -149,31 +136,11 @@ pub(crate) struct Schedule {
     part_count: usize,
 }
 
-impl Targets {
-    /// None.
-    pub(crate) fn new(alloc: Global) -> Targets {
-        Targets {
-            first: None,
-            others: Vec::new(alloc),
-        }
-    }
-
-    /// Adds where the next part is asked.
-    pub(crate) fn push(&mut self, target: Target) -> Result<(), AllocError> {
-        if self.first.is_none() {
-            self.first = Some(target);
-            return Ok(());
-        }
-        self.others.push(target)?;
-        Ok(())
-    }
-}
-
 impl PartRecord {
     /// A part that waits for nothing yet.
-    pub(crate) fn new(target: Target) -> PartRecord {
+    pub(crate) fn new() -> PartRecord {
         PartRecord {
-            target,
+            target: Target::Serving,
             room: Room::Nowhere,
             previous: None,
             next: None,
@@ -262,16 +229,12 @@ impl Schedule {
     fn push_call(&mut self, new: NewCall, place: usize) -> Result<(), AllocError> {
         let call = self.next_call();
         let count = self.parts.len();
-        if self.push_parts(&new.targets).is_err() {
+        if self.push_parts(new.part_count).is_err() {
             self.parts.truncate(count);
             return Err(AllocError);
         }
-        let record = CallRecord::new(
-            new,
-            place,
-            self.parts_gone.saturating_add(count as u64),
-            self.parts.len().saturating_sub(count),
-        );
+        let before = self.parts_gone.saturating_add(count as u64);
+        let record = CallRecord::new(new, place, before);
         if self.calls.push_back(record).is_err() {
             self.parts.truncate(count);
             return Err(AllocError);
@@ -285,13 +248,9 @@ impl Schedule {
     }
 
     /// Adds parts. If memory runs out, some of them may have been added.
-    fn push_parts(&mut self, targets: &Targets) -> Result<(), AllocError> {
-        let Some(first) = targets.first else {
-            return Ok(());
-        };
-        self.parts.push_back(PartRecord::new(first))?;
-        for target in &targets.others {
-            self.parts.push_back(PartRecord::new(*target))?;
+    fn push_parts(&mut self, count: usize) -> Result<(), AllocError> {
+        for _ in 0..count {
+            self.parts.push_back(PartRecord::new())?;
         }
         Ok(())
     }

@@ -1,20 +1,21 @@
 //! The session, as its shell calls it.
-#![tactic(auto, using(crate::proofs::Leads::leads_nowhere, crate::proofs::Leads::leads_by, crate::proofs::Leads::leads_on, crate::proofs::Leads::leads_if, crate::proofs::Leads::leads_ok, crate::proofs::Leads::reports_by, crate::proofs::Leads::ends_by, crate::proofs::Leads::ends_on))]
+#![tactic(auto, using(crate::proofs::Leads::leads_nowhere, crate::proofs::Leads::leads_by, crate::proofs::Leads::leads_on, crate::proofs::Leads::leads_if, crate::proofs::Leads::leads_ok, crate::proofs::Leads::knows_on, crate::proofs::Leads::ends_on))]
 
-ghost use Rattle.std.specs.Prelude.{◌≡◌, ◌≢◌, ◌<◌, ◌⊎◌, [], ℕ, true, false, length, Ok, Some, IfOk, IfErr, OnOk, OnErr};
+ghost use Rattle.std.specs.Prelude.{◌≡◌, ◌≢◌, ◌<◌, ◌⊎◌, [], ℕ, true, false, length, Ok, Some, None, IfOk, IfErr, IfSome, IfNone, OnOk, OnErr, slice_get};
 
 mod asking;
 mod replying;
 mod taking;
 
 use crate::call_deadlines::CallDeadlines;
+use crate::directory::Directory;
 use crate::nodes::{NodeLink, Nodes};
+use crate::peers::Peers;
 use crate::refusal::CallRefusal;
 use crate::rules::Rules;
 use crate::schedule::Schedule;
 use crate::session::replying::LastReply;
 use crate::settings::Settings;
-use crate::table::SlotTable;
 use cluster_map::NodeAddress;
 use session_core::{Seat, Standing};
 use session_machine::Machine;
@@ -27,7 +28,8 @@ use std::marker::Model;
 pub struct Session {
     pub(crate) machine: Machine,
     pub(crate) rules: Rules,
-    pub(crate) table: SlotTable,
+    pub(crate) directory: Directory,
+    pub(crate) peers: Peers,
     pub(crate) deadlines: CallDeadlines,
     pub(crate) nodes: Nodes,
     pub(crate) schedule: Schedule,
@@ -65,7 +67,7 @@ impl Session {
     ghost use Rattle.redis_session.specs.Refusals.{IsCallRefused};
     ghost use Rattle.redis_session.specs.SessionStates.{names, new_session, settings_of};
     ghost use Rattle.redis_session.specs.declared.refusal.CallRefusal.TheVariants as refused;
-    ghost use Rattle.redis_session.specs.Leads.{Advances, Does, Leads, Opens, Hears, HearsNot, Ends, ConnectsNot, BeginsCall, GivesUp, IsOpen};
+    ghost use Rattle.redis_session.specs.Leads.{Advances, Does, Knows, Leads, Opens, Hears, HearsNot, Ends, ConnectsNot, BeginsCall, GivesUp, IsOpen};
 
     /// No links, no calls, and no slot has a node. Takes no memory.
     pub fn new(alloc: Global, settings: Settings) -> Session
@@ -74,7 +76,8 @@ impl Session {
         Session {
             machine: Machine::new(alloc),
             rules: Rules::new(alloc),
-            table: SlotTable::new(alloc),
+            directory: Directory::new(alloc),
+            peers: Peers::new(alloc),
             deadlines: CallDeadlines::new(alloc),
             nodes: Nodes::new(alloc),
             schedule: Schedule::new(alloc),
@@ -97,9 +100,12 @@ impl Session {
     ///
     /// If memory runs out. Nothing changes then.
     pub fn add_node(&mut self, address: &NodeAddress) -> Result<Option<usize>, AllocError>
-        ensures { self.new ≡ self.old }
+        ensures known { IfOk result (λ node. IfSome node (λ number.
+            slice_get self.new.directory.nodes number ≡ Some address.now)) }
+        ensures state { Knows self.old self.new }
+        ensures err { OnErr result (self.new ≡ self.old) }
     {
-        let number = number_of(&mut self.nodes, &mut self.schedule, address)?;
+        let number = self.number_of(address)?;
         if let Some(node) = number {
             self.nodes.want(node);
         }
@@ -119,8 +125,11 @@ impl Session {
     }
 
     /// The address of a node.
-    pub fn address(&self, node: usize) -> Option<&NodeAddress> {
-        self.nodes.address(node)
+    pub fn address(&self, node: usize) -> Option<&NodeAddress>
+        ensures some { IfSome result (λ address. slice_get self.entry.now.directory.nodes node ≡ Some address.now) }
+        ensures none { IfNone result (slice_get self.entry.now.directory.nodes node ≡ None) }
+    {
+        self.directory.address(node)
     }
 
     /// Notes a new connection to a node. Returns the number of its link.
@@ -130,7 +139,7 @@ impl Session {
     /// If memory runs out. There is no link then, and the connection is to be closed. The node is as one that is
     /// unreachable.
     pub fn connected(&mut self, alloc: Global, node: usize) -> Result<usize, AllocError>
-        ensures ok { IfOk result (λ link. Opens link self.old self.new) }
+        ensures ok { IfOk result (λ link. Opens link node self.old self.new) }
         ensures err { OnErr result (ConnectsNot self.old self.new) }
     {
         let Ok(opened) = self.machine.open(alloc, self.settings.most_reply_bytes) else {
@@ -172,9 +181,7 @@ impl Session {
     pub(crate) fn pause_unreached(&mut self, seat: Seat, end: u64)
         ensures { self.new ≡ self.old }
     {
-        if let Some(slot) = self.slot_of(seat) {
-            self.schedule.forget_ask(seat, slot);
-        }
+        self.schedule.forget_ask(seat);
         self.schedule.pause(seat, end);
     }
 
@@ -413,6 +420,30 @@ impl Session {
         self.is_map_wanted |= is_wanted;
     }
 
+    /// The number of a node, which is added if it is not known. There is none if there are too many.
+    ///
+    /// # Errors
+    ///
+    /// If memory runs out. Nothing changes then.
+    pub(crate) fn number_of(&mut self, address: &NodeAddress) -> Result<Option<usize>, AllocError>
+        ensures known { IfOk result (λ node. IfSome node (λ number.
+            slice_get self.new.directory.nodes number ≡ Some address.now)) }
+        ensures state { Knows self.old self.new }
+        ensures err { OnErr result (self.new ≡ self.old) }
+    {
+        if let Some(number) = self.directory.number(address) {
+            return Ok(Some(number));
+        }
+        let next = self.directory.len();
+        self.schedule.make_room(next)?;
+        self.nodes.make_room_for_node(next)?;
+        let added = self.directory.add(address.clone()?)?;
+        if added.is_some() {
+            self.nodes.add();
+        }
+        Ok(added)
+    }
+
     /// Takes the parts of a call out of the lists that they are in.
     fn unlist(&mut self, call: u64)
         ensures { self.new ≡ self.old }
@@ -424,19 +455,6 @@ impl Session {
             self.schedule.remove(Seat { call, part });
         }
     }
-}
-
-/// The number of a node, which is added if it is not known. There is none if there are too many.
-pub(crate) fn number_of(
-    nodes: &mut Nodes,
-    schedule: &mut Schedule,
-    address: &NodeAddress,
-) -> Result<Option<usize>, AllocError> {
-    if let Some(number) = nodes.number(address) {
-        return Ok(Some(number));
-    }
-    schedule.make_room(nodes.len())?;
-    nodes.add(address)
 }
 
 /// The earlier of two times, if there are two.

@@ -1,3 +1,5 @@
+ghost use Rattle.std.specs.Prelude.{◌≡◌, ◌==◌, length};
+
 use crate::added::AddedNames;
 use redis_routing::{ReadOnlyNames, Registry};
 
@@ -33,4 +35,13 @@ pub struct Settings {
     pub added: AddedNames,
     /// The names of the commands that only read. A session asks them at primaries, too.
     pub read_only: ReadOnlyNames,
+}
+
+impl Settings {
+    /// Whether links begin without a login.
+    pub(crate) fn needs_no_login(&self) -> bool
+        ensures { result ≡ (length self.now.login.items == 0) }
+    {
+        self.login.as_slice().is_empty()
+    }
 }

@@ -4,12 +4,7 @@ use super::{CallRecord, DeadlineRoom, NewCall, Schedule};
 
 impl CallRecord {
     /// A call that has just come.
-    pub(crate) fn new(
-        new: NewCall,
-        place: usize,
-        parts_before: u64,
-        part_count: usize,
-    ) -> CallRecord {
+    pub(crate) fn new(new: NewCall, place: usize, parts_before: u64) -> CallRecord {
         CallRecord {
             caller: new.caller,
             place,
@@ -21,7 +16,7 @@ impl CallRecord {
             has_left: false,
             bytes: new.bytes,
             parts_before,
-            part_count,
+            part_count: new.part_count,
             next_of_caller: None,
         }
     }

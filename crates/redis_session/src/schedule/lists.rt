@@ -5,14 +5,17 @@ use session_core::Seat;
 
 impl Schedule {
     /// Where a part is asked.
-    pub(crate) fn target(&self, seat: Seat) -> Option<Target> {
-        Some(self.part(seat)?.target)
+    pub(crate) fn target(&self, seat: Seat) -> Target {
+        match self.part(seat) {
+            Some(part) => part.target,
+            None => Target::Serving,
+        }
     }
 
-    /// Has a part of a slot asked at the primary of the slot.
-    pub(crate) fn forget_ask(&mut self, seat: Seat, slot: u16) {
+    /// Has a part asked at a node that serves it.
+    pub(crate) fn forget_ask(&mut self, seat: Seat) {
         if let Some(part) = self.part_mut(seat) {
-            part.target = Target::Slot(slot);
+            part.target = Target::Serving;
         }
     }
 

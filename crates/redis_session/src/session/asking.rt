@@ -1,18 +1,18 @@
 //! Which parts are asked, and where.
 
-ghost use Rattle.std.specs.Prelude.{◌≡◌, ◌<◌, ◌++◌, ◌∷◌, [], false, length, max, IfOk, OnOk};
+ghost use Rattle.std.specs.Prelude.{◌≡◌, ◌<◌, true, false, length, IfOk, OnOk};
 ghost use Rattle.redis_session.specs.Plans.{HaveOwnSlots};
 ghost use Rattle.redis_session.specs.Table.{group_in};
-ghost use Rattle.redis_session.specs.Begins.{AreNewParts, CanBegin, IsErrandBy, IsNewPart, count_parts, has_slot};
+ghost use Rattle.redis_session.specs.Begins.{AreNewParts, CanBegin, IsErrandBy, IsNewPart, has_slot};
 ghost use Rattle.redis_session.specs.declared.plan.CallParts.TheVariants as plans;
 
-use crate::nodes::{NodeLink, Nodes};
+use crate::nodes::NodeLink;
 use crate::plan::{CallParts, CallPlan, SlotPart};
 use crate::refusal::CallRefusal;
 use crate::rules::ReplyRule;
-use crate::schedule::{NewCall, Room, Schedule, Target, Targets};
-use crate::session::{Session, number_of};
-use cluster_map::NodeAddress;
+use crate::peers::Peer;
+use crate::schedule::{NewCall, Room, Target};
+use crate::session::Session;
 use redis_routing::NodeGroup;
 use session_core::{PartOrder, Seat, Standing};
 use session_machine::Part;
@@ -26,18 +26,20 @@ const CLUSTER_SLOTS: &[u8] = b"*2\r\n$7\r\nCLUSTER\r\n$5\r\nSLOTS\r\n";
 struct Errand {
     rule: ReplyRule,
     parts: Vec<Part>,
-    targets: Targets,
 }
 
 impl Session {
-    ghost use Rattle.std.specs.Prelude.{◌⊎◌, IfErr, List, OnErr};
+    ghost use Rattle.std.specs.Prelude.{◌⊎◌, IfErr, IfSome, List, OnErr};
     ghost use Rattle.session_core.specs.Part.{PartState};
     ghost use Rattle.session_core.specs.declared.link.Standing.TheVariants.{Open};
     ghost use Rattle.session_core.specs.Channel.{Channel};
     ghost use Rattle.session_core.specs.State.{IsLink};
     ghost use Rattle.redis_session.specs.Begins.{IsErrand};
     ghost use Rattle.redis_session.specs.Deadlines.{Forgets};
-    ghost use Rattle.redis_session.specs.Leads.{AddsCall, BeginsLink, Leads};
+    ghost use Rattle.redis_session.specs.Directory.{AreNumbersOf};
+    ghost use Rattle.redis_session.specs.Leads.{AddsCall, AsksLogin, BeginsLink, ChangesPeer, Leads, Serves};
+    ghost use Rattle.redis_session.specs.Peers.{IsReadyTo};
+    ghost use Rattle.redis_session.specs.Targets.{is_serving};
     ghost use Rattle.redis_session.specs.Refusals.{IsCallRefused};
     ghost use Rattle.redis_session.specs.Rules.{rule_in};
     ghost use Rattle.redis_session.specs.SessionStates.{names};
@@ -53,7 +55,7 @@ impl Session {
     ) -> Result<u64, CallRefusal>
         ensures begun { IfOk result (λ call. (parts : List PartState)
             × AddsCall call caller deadline parts self.old self.new
-            × IsErrand self.old.table self.old.settings request.now (rule_in self.new.rules call) parts) }
+            × IsErrand self.old.directory self.old.settings request.now (rule_in self.new.rules call) parts) }
         ensures refused { OnErr result (self.new ≡ self.old) }
         ensures why { IfErr result (λ refusal. (refusal ≡ refused.Limit)
             ⊎ IsCallRefused (names self.old) self.old.settings.added request.now refusal) }
@@ -66,7 +68,7 @@ impl Session {
             caller,
             deadline,
             bytes: request.len(),
-            targets: errand.targets,
+            part_count: errand.parts.len(),
         })?;
         match self.begin_parts(alloc, caller, errand.rule, errand.parts, deadline) {
             Ok(call) => {
@@ -139,7 +141,7 @@ impl Session {
     fn errand(&mut self, alloc: Global, request: &[u8]) -> Result<Errand, CallRefusal>
         ensures parts { IfOk result (λ errand. CanBegin errand.parts.items) }
         ensures errand { IfOk result (λ errand.
-            IsErrand self.old.table self.old.settings request.now errand.rule errand.parts.items) }
+            IsErrand self.old.directory self.old.settings request.now errand.rule errand.parts.items) }
         ensures refused { IfErr result (IsCallRefused (names self.old) self.old.settings.added request.now) }
         ensures state { self.new ≡ self.old }
     {
@@ -149,9 +151,11 @@ impl Session {
             CallParts::One(order) => Ok(self.one_part(alloc, request, order, may_refuse)?),
             CallParts::Split(slots) => Ok(self.slot_parts(alloc, request, slots, may_refuse)?),
             CallParts::Several(group, policy, order) => {
-                let rule = ReplyRule::Several(policy);
-                let targets = self.group(alloc, group)?;
-                Ok(self.several_parts(alloc, request, rule, targets, order, may_refuse)?)
+                let nodes = self.group(alloc, group)?;
+                let count = nodes.len().max(1);
+                let parts = self.several_parts(alloc, request, count, order, may_refuse)?;
+                let rule = ReplyRule::Several(policy, nodes);
+                Ok(Errand { rule, parts })
             }
         }
     }
@@ -167,15 +171,12 @@ impl Session {
         requires { 0 < length request.now }
         ensures begins { IfOk result (λ errand. CanBegin errand.parts.items) }
         ensures errand { IfOk result (λ errand.
-            IsErrandBy self.entry.now.table self.entry.now.settings.retries request.now may_refuse (plans.One order) errand.rule errand.parts.items) }
+            IsErrandBy self.entry.now.directory self.entry.now.settings.retries request.now may_refuse (plans.One order) errand.rule errand.parts.items) }
     {
-        let mut errand = Errand::new(alloc, ReplyRule::One);
-        let target = match order {
-            PartOrder::OfSlot(slot) => Target::Slot(slot),
-            PartOrder::Whole | PartOrder::Free => Target::Any,
-        };
-        errand.push(self.part(alloc, request, order, may_refuse)?, target)?;
-        Ok(errand)
+        let rule = ReplyRule::One;
+        let mut parts = Vec::new(alloc);
+        parts.push(self.part(alloc, request, order, may_refuse)?)?;
+        Ok(Errand { rule, parts })
     }
 
     /// The part of each slot.
@@ -189,43 +190,39 @@ impl Session {
         requires { HaveOwnSlots slots.items }
         ensures begins { IfOk result (λ errand. CanBegin errand.parts.items) }
         ensures errand { IfOk result (λ errand.
-            IsErrandBy self.entry.now.table self.entry.now.settings.retries request.now may_refuse (plans.Split slots) errand.rule errand.parts.items) }
+            IsErrandBy self.entry.now.directory self.entry.now.settings.retries request.now may_refuse (plans.Split slots) errand.rule errand.parts.items) }
     {
         let retries = self.settings.retries;
-        let mut errand = Errand::new(alloc, ReplyRule::Split(request.to_vec(alloc)?));
-        for slot_part in slots {
-            let slot = slot_part.slot;
-            let order = PartOrder::OfSlot(slot);
-            let part = Part::new(slot_part.request, order, may_refuse, retries);
-            errand.push(part, Target::Slot(slot))?;
+        let mut parts = Vec::with_capacity(alloc, slots.len())?;
+        for part in slots {
+            let order = PartOrder::OfSlot(part.slot);
+            parts.push(Part::new(part.request, order, may_refuse, retries))?;
         }
-        Ok(errand)
+        let rule = ReplyRule::Split(request.to_vec(alloc)?);
+        Ok(Errand { rule, parts })
     }
 
-    /// The request as it came for each of the targets.
+    /// So many parts that ask the request as it came.
     fn several_parts(
         &self,
         alloc: Global,
         request: &[u8],
-        rule: ReplyRule,
-        targets: Vec<Target>,
+        count: usize,
         order: PartOrder,
         may_refuse: bool,
-    ) -> Result<Errand, AllocError>
+    ) -> Result<Vec<Part>, AllocError>
         requires some { 0 < length request.now }
         requires order { has_slot order ≡ false }
-        ensures begins { IfOk result (λ errand. CanBegin errand.parts.items) }
-        ensures rule { IfOk result (λ errand. errand.rule ≡ rule) }
-        ensures count { IfOk result (λ errand. length errand.parts.items ≡ length targets.items) }
-        ensures each { IfOk result (λ errand.
-            AreNewParts self.entry.now.settings.retries request.now order may_refuse errand.parts.items) }
+        ensures begins { IfOk result (λ parts. CanBegin parts.items) }
+        ensures count { IfOk result (λ parts. length parts.items ≡ count) }
+        ensures each { IfOk result (λ parts.
+            AreNewParts self.entry.now.settings.retries request.now order may_refuse parts.items) }
     {
-        let mut errand = Errand::new(alloc, rule);
-        for target in targets {
-            let part = self.part(alloc, request, order, may_refuse)?;
-            errand.push(part, target)?;
+        let mut parts = Vec::with_capacity(alloc, count)?;
+        for _ in 0..count {
+            parts.push(self.part(alloc, request, order, may_refuse)?)?;
         }
-        Ok(errand)
+        Ok(parts)
     }
 
     /// A part that asks the request as it came.
@@ -242,13 +239,15 @@ impl Session {
         Ok(Part::new(request, order, may_refuse, self.settings.retries))
     }
 
-    /// The nodes of a group, by the map. If there are none, the request waits for one.
-    fn group(&mut self, alloc: Global, group: NodeGroup) -> Result<Vec<Target>, AllocError>
-        ensures count { IfOk result (λ targets. length targets.items ≡ count_parts (group_in group self.old.table)) }
+    /// The numbers of the nodes of a group, which the map has.
+    fn group(&mut self, alloc: Global, group: NodeGroup) -> Result<Vec<usize>, AllocError>
+        ensures numbers { IfOk result (λ nodes. AreNumbersOf nodes.items
+            (group_in group self.old.directory.table) self.old.directory.nodes) }
         ensures state { self.new ≡ self.old }
     {
-        let addresses = self.table.group(alloc, group)?;
-        targets_of(alloc, &mut self.nodes, &mut self.schedule, &addresses)
+        let nodes = self.directory.numbers(alloc, group)?;
+        self.nodes.note_in_map(&nodes);
+        Ok(nodes)
     }
 
     /// Asks the parts that are to be asked in this step.
@@ -278,22 +277,20 @@ impl Session {
             self.schedule.push_back(seat, Room::Barred);
             return Ok(());
         }
-        let Some(target) = self.schedule.target(seat) else {
-            return Ok(());
-        };
-        if self.has_left(target) {
+        if self.has_left(seat) {
             self.end_without_node(seat);
             self.note_done(alloc, seat);
             return Ok(());
         }
-        self.place_at(seat, target)
+        self.place_at(seat)
     }
 
     /// Asks a part where it is to be asked, or has it wait for a node or for a link to it.
-    fn place_at(&mut self, seat: Seat, target: Target) -> Result<(), AllocError>
+    fn place_at(&mut self, seat: Seat) -> Result<(), AllocError>
         ensures { Leads self.old self.new }
     {
-        let Some(node) = self.node_for(target)? else {
+        let target = self.schedule.target(seat);
+        let Some(node) = self.node_for(seat, target) else {
             self.schedule.push_back(seat, Room::Unserved);
             self.want_map();
             return Ok(());
@@ -303,33 +300,44 @@ impl Session {
             self.nodes.want(node);
             return Ok(());
         };
-        self.ask_on(seat, link, target)
-    }
-
-    /// Asks a part on a link, if the order of its caller allows it now.
-    fn ask_on(&mut self, seat: Seat, link: usize, target: Target) -> Result<(), AllocError>
-        ensures { Leads self.old self.new }
-    {
-        let Some(Standing::Open) = self.machine.standing(link) else {
-            return Ok(());
-        };
-        if self.ask_at(seat, link, target)? {
+        if self.ask_at(seat, target, node, link)? {
             self.nodes.note_asked(link);
             self.release_next(seat);
         }
         Ok(())
     }
 
-    /// Asks a part on a link that is open, if the order of its caller allows it now. Returns whether it did.
-    fn ask_at(&mut self, seat: Seat, link: usize, target: Target) -> Result<bool, AllocError>
-        requires { (c : Channel) × IsLink self.old.machine link c × (c.standing ≡ Open) }
+    /// Asks a part on a link to a node, if the link is ready and the order of its caller allows it now. Returns whether
+    /// it did.
+    fn ask_at(
+        &mut self,
+        seat: Seat,
+        target: Target,
+        node: usize,
+        link: usize,
+    ) -> Result<bool, AllocError>
+        requires { is_serving target ≡ true → Serves self.old seat.call seat.part node }
         ensures { Leads self.old self.new }
     {
+        if !self.is_ready_to(node, link) {
+            return Ok(false);
+        }
+        let Some(Standing::Open) = self.machine.standing(link) else {
+            return Ok(false);
+        };
         match target {
             Target::Asking(_) => self.machine.ask_asking(link, seat.call, seat.part),
-            Target::Slot(_) | Target::Node(_) | Target::Any | Target::Nobody => {
-                self.machine.ask(link, seat.call, seat.part)
-            }
+            Target::Serving => self.machine.ask(link, seat.call, seat.part),
+        }
+    }
+
+    /// Whether parts may be asked on a link, and it is one to this node.
+    fn is_ready_to(&self, node: usize, link: usize) -> bool
+        ensures { result ≡ true → IsReadyTo node link self.entry.now.peers }
+    {
+        match self.peers.get(link) {
+            Some(peer) => peer.is_ready && peer.node == node,
+            None => false,
         }
     }
 
@@ -384,40 +392,36 @@ impl Session {
     }
 
     /// The node at which a part is asked.
-    fn node_for(&mut self, target: Target) -> Result<Option<usize>, AllocError>
-        ensures { self.new ≡ self.old }
+    fn node_for(&mut self, seat: Seat, target: Target) -> Option<usize>
+        ensures serves { is_serving target ≡ true → IfSome result (Serves self.old seat.call seat.part) }
+        ensures state { self.new ≡ self.old }
     {
         match target {
-            Target::Slot(slot) => self.node_of_slot(slot),
-            Target::Asking(node) | Target::Node(node) => Ok(Some(node)),
-            Target::Any => Ok(self.nodes.any()),
-            Target::Nobody => Ok(None),
+            Target::Asking(node) => Some(node),
+            Target::Serving => self.serving_node(seat),
         }
     }
 
-    /// Whether a part is to be asked at a node that left the map.
-    fn has_left(&self, target: Target) -> bool {
-        match target {
-            Target::Node(node) => !self.nodes.is_in_map(node),
-            Target::Slot(_) | Target::Asking(_) | Target::Any | Target::Nobody => false,
+    /// A node that serves a part: the primary of its slot, the one of several nodes that it is for, or any.
+    fn serving_node(&mut self, seat: Seat) -> Option<usize>
+        ensures serves { IfSome result (Serves self.old seat.call seat.part) }
+        ensures state { self.new ≡ self.old }
+    {
+        if let Some(slot) = self.slot_of(seat) {
+            return self.directory.node_of(slot);
+        }
+        match self.rules.node_of(seat.call, seat.part) {
+            Some(node) => node,
+            None => self.nodes.any(),
         }
     }
 
-    /// The primary of a slot.
-    fn node_of_slot(&mut self, slot: u16) -> Result<Option<usize>, AllocError>
-        ensures { self.new ≡ self.old }
-    {
-        if let Some(node) = self.nodes.node_of_slot(slot) {
-            return Ok(Some(node));
+    /// Whether a part is for one of several nodes, which left the map.
+    fn has_left(&self, seat: Seat) -> bool {
+        match self.rules.node_of(seat.call, seat.part) {
+            Some(Some(node)) => !self.nodes.is_in_map(node),
+            _ => false,
         }
-        let Some(address) = self.table.node(slot) else {
-            return Ok(None);
-        };
-        let number = number_of(&mut self.nodes, &mut self.schedule, address)?;
-        if let Some(node) = number {
-            self.nodes.note_slot(slot, node);
-        }
-        Ok(number)
     }
 
     /// Asks for the map on a link that is ready, if the map is wanted.
@@ -427,15 +431,18 @@ impl Session {
         if !self.is_map_due() {
             return Ok(());
         }
-        let Some(link) = self.nodes.next_ready() else {
+        let Some((node, link)) = self.nodes.next_ready() else {
             self.nodes.want_next();
             return Ok(());
         };
+        if !self.is_ready_to(node, link) {
+            return Ok(());
+        }
         let Some(Standing::Open) = self.machine.standing(link) else {
             return Ok(());
         };
         self.machine
-            .ask_map(link, self.table.count(), CLUSTER_SLOTS)?;
+            .ask_map(link, self.directory.moved_count(), CLUSTER_SLOTS)?;
         self.nodes.note_asked(link);
         self.is_map_asked = true;
         self.is_map_wanted = false;
@@ -444,11 +451,13 @@ impl Session {
 
     /// Begins a link to a node: with its login, or ready at once.
     pub(crate) fn begin_link(&mut self, node: usize, link: usize) -> Result<(), AllocError>
-        ensures ok { OnOk result (BeginsLink link self.old self.new) }
-        ensures err { OnErr result (self.new ≡ self.old) }
+        ensures ok { OnOk result (BeginsLink link node self.old self.new) }
+        ensures err { OnErr result (ChangesPeer link self.old self.new) }
     {
         self.nodes.make_room(link)?;
-        if self.settings.login.is_empty() {
+        let is_ready = self.settings.needs_no_login();
+        self.peers.join(link, Peer { node, is_ready })?;
+        if is_ready {
             self.nodes.set_link(node, NodeLink::Ready(link));
             self.schedule.release_node(node);
             return Ok(());
@@ -464,7 +473,7 @@ impl Session {
     ///
     /// If memory runs out, there is no login, or the link is not open. Nothing is asked then.
     fn ask_login(&mut self, link: usize) -> Result<(), AllocError>
-        ensures ok { OnOk result (BeginsLink link self.old self.new) }
+        ensures ok { OnOk result (AsksLogin link self.old self.new) }
         ensures err { OnErr result (self.new ≡ self.old) }
     {
         let Some(Standing::Open) = self.machine.standing(link) else {
@@ -475,57 +484,6 @@ impl Session {
         }
         self.machine.ask_login(link, &self.settings.login)?;
         self.nodes.note_asked(link);
-        Ok(())
-    }
-}
-
-/// The nodes of these addresses, which the map has. Those that are not known are added. Without one, there is one target
-/// for which there is no node.
-fn targets_of(
-    alloc: Global,
-    nodes: &mut Nodes,
-    schedule: &mut Schedule,
-    addresses: &[&NodeAddress],
-) -> Result<Vec<Target>, AllocError>
-    ensures { IfOk result (λ targets. length targets.items ≡ max 1 (length addresses.now)) }
-{
-    let mut targets = Vec::new(alloc);
-    for address in addresses {
-        let target = match number_of(nodes, schedule, address)? {
-            Some(node) => {
-                nodes.note_in_map(node);
-                Target::Node(node)
-            }
-            None => Target::Nobody,
-        };
-        targets.push(target)?;
-    }
-    if targets.is_empty() {
-        targets.push(Target::Nobody)?;
-    }
-    Ok(targets)
-}
-
-impl Errand {
-    /// Nothing is asked yet.
-    fn new(alloc: Global, rule: ReplyRule) -> Errand
-        ensures rule { result.rule ≡ rule }
-        ensures none { result.parts.items ≡ [] }
-    {
-        Errand {
-            rule,
-            parts: Vec::new(alloc),
-            targets: Targets::new(alloc),
-        }
-    }
-
-    /// Adds a part and where it is asked.
-    fn push(&mut self, part: Part, target: Target) -> Result<(), AllocError>
-        ensures rule { self.new.rule ≡ self.old.rule }
-        ensures part { OnOk result (self.new.parts.items ≡ self.old.parts.items ++ part ∷ []) }
-    {
-        self.parts.push(part)?;
-        self.targets.push(target)?;
         Ok(())
     }
 }

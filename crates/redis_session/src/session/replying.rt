@@ -183,7 +183,7 @@ impl Session {
         match rule {
             ReplyRule::One => Ok(only_reply(call, state)),
             ReplyRule::Split(request) => self.split_reply(alloc, call, request, state),
-            ReplyRule::Several(policy) => several_reply(alloc, call, *policy, state),
+            ReplyRule::Several(policy, _) => several_reply(alloc, call, *policy, state),
         }
     }
 

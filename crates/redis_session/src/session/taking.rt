@@ -4,8 +4,9 @@ ghost use Rattle.std.specs.Prelude.{IfOk, IfSome};
 ghost use Rattle.redis_session.specs.Learned.{IsRedirectIn, SendsOn};
 
 use crate::nodes::NodeLink;
+use crate::reply::is_error;
 use crate::schedule::{Room, Target};
-use crate::session::{Session, number_of};
+use crate::session::Session;
 use cluster_slots::Slot;
 use redis_routing::{NodeGroup, Redirect};
 use session_core::{PartOrder, Seat, Standing, Ticket};
@@ -16,15 +17,18 @@ use std::alloc::{AllocError, Global};
 const MOST_REDIRECTS_AT_ONCE: u32 = 4;
 
 impl Session {
-    ghost use Rattle.std.specs.Prelude.{◌≡◌, OnOk, OnErr};
+    ghost use Rattle.std.specs.Prelude.{◌≡◌, Some, false, IfNone, OnOk, OnErr};
+    ghost use Rattle.session_core.specs.Part.{PartState};
+    ghost use Rattle.session_core.specs.declared.part.PartOrder.TheVariants.{OfSlot};
+    ghost use Rattle.redis_session.specs.Begins.{has_slot};
     ghost use Rattle.session_core.specs.declared.link.Standing.TheVariants.{Open};
     ghost use Rattle.session_core.specs.Channel.{Channel};
     ghost use Rattle.session_core.specs.LinkEvents as events;
-    ghost use Rattle.session_core.specs.State.{On, IsLink};
+    ghost use Rattle.session_core.specs.State.{On, Happens, IsLink, part_at};
     ghost use Rattle.session_machine.specs.declared.took.Took.TheVariants.{Kept};
     ghost use Rattle.session_core.specs.declared.part.Cause.TheVariants.{NoNode};
-    ghost use Rattle.redis_session.specs.Learned.{LearnsKept, LearnsRedirect, LearnsReplyOf, LearnsTold, Sets};
-    ghost use Rattle.redis_session.specs.Leads.{Does, Leads, LeadsBy, Notes, TakesAll, Ends, IsConnected, may_end};
+    ghost use Rattle.redis_session.specs.Learned.{LearnsKept, LearnsRedirect, LearnsReplyOf, LearnsTold, NoPeers, Sets};
+    ghost use Rattle.redis_session.specs.Leads.{Does, Ends, Hails, IsConnected, Knows, Leads, LearnsThen, Notes, TakesAll, may_end};
 
     /// Takes the replies that came on a link, and notes whether it owes more. If no byte came now, its silence goes on.
     pub(crate) fn take_all(
@@ -65,7 +69,7 @@ impl Session {
 
     /// Notes what was taken on a link.
     fn note_took(&mut self, alloc: Global, link: usize, took: Took) -> Result<(), AllocError>
-        ensures { Notes took self.old self.new }
+        ensures { Notes link took self.old self.new }
     {
         match took {
             Took::Nothing | Took::Broken(_) => Ok(()),
@@ -85,17 +89,33 @@ impl Session {
 
     /// Notes the reply to the login of a link.
     fn note_login(&mut self, link: usize, reply: &[u8])
-        ensures { self.new ≡ self.old }
+        ensures { Hails link reply.now self.old self.new }
     {
-        if reply.starts_with(b"-") {
+        if is_error(reply) {
             self.break_link(link);
             return;
         }
-        let Some(node) = self.nodes.opening_node(link) else {
+        let Some(node) = self.opening_node(link) else {
             return;
         };
+        self.peers.note_ready(link);
         self.nodes.set_link(node, NodeLink::Ready(link));
         self.schedule.release_node(node);
+    }
+
+    /// The node of a link.
+    pub(crate) fn node_of_link(&self, link: usize) -> Option<usize> {
+        Some(self.peers.get(link)?.node)
+    }
+
+    /// The node to which a link is opening, whose login is not answered.
+    fn opening_node(&self, link: usize) -> Option<usize> {
+        let node = self.node_of_link(link)?;
+        if self.nodes.link(node) == NodeLink::Opening(link) {
+            Some(node)
+        } else {
+            None
+        }
     }
 
     /// Notes the reply to a `CLUSTER SLOTS` that was asked after `count` `MOVED` were learned.
@@ -113,7 +133,6 @@ impl Session {
         self.map_time = self.pause_end();
         match self.fill_table(alloc, link, count, reply) {
             Ok(true) => {
-                self.nodes.forget_slots();
                 self.schedule.release_unserved();
                 self.schedule.release_nodes();
                 self.note_nodes(alloc)
@@ -140,31 +159,38 @@ impl Session {
     ) -> Result<bool, AllocError>
         ensures { Sets (LearnsReplyOf count reply.now) self.old self.new }
     {
-        let Some(address) = self.nodes.address_of_link(link) else {
+        let Some(node) = self.node_of_link(link) else {
             return Ok(false);
         };
-        self.table.fill(alloc, reply, address.host(), count)
+        self.directory.fill(alloc, reply, node, count)
     }
 
     /// Notes which nodes the map has. Parts for other named nodes end when they are to be asked next.
     fn note_nodes(&mut self, alloc: Global) -> Result<(), AllocError>
-        ensures { self.new ≡ self.old }
+        ensures { Knows self.old self.new }
     {
-        match self.table.group(alloc, NodeGroup::AllNodes) {
-            Ok(addresses) => {
-                self.nodes.note_map(&addresses);
-                Ok(())
-            }
-            Err(error) => {
-                self.is_map_wanted = true;
-                Err(error)
-            }
+        let noted = self.number_nodes(alloc);
+        if noted.is_err() {
+            self.is_map_wanted = true;
         }
+        noted
+    }
+
+    /// Gives each node of the map a number, and notes that the map has it.
+    fn number_nodes(&mut self, alloc: Global) -> Result<(), AllocError>
+        ensures { Knows self.old self.new }
+    {
+        for address in self.directory.unknown_nodes(alloc)? {
+            self.number_of(&address)?;
+        }
+        let nodes = self.directory.numbers(alloc, NodeGroup::AllNodes)?;
+        self.nodes.note_map(&nodes);
+        Ok(())
     }
 
     /// Notes that a part keeps its reply.
     fn note_kept(&mut self, alloc: Global, link: usize, seat: Seat) -> Result<(), AllocError>
-        ensures { Notes (Kept seat) self.old self.new }
+        ensures { Notes link (Kept seat) self.old self.new }
     {
         self.nodes.note_reply(link);
         if !self.keeps_error(seat) {
@@ -176,7 +202,7 @@ impl Session {
 
     /// Notes that a part keeps an error.
     fn note_error(&mut self, alloc: Global, link: usize, seat: Seat) -> Result<(), AllocError>
-        ensures { Notes (Kept seat) self.old self.new }
+        ensures { Notes link (Kept seat) self.old self.new }
     {
         self.want_map_if(self.keeps_change(seat));
         let learned = self.learn_kept(alloc, link, seat);
@@ -238,7 +264,7 @@ impl Session {
         seat: Seat,
         reply: &[u8],
     ) -> Result<(), AllocError>
-        ensures { LeadsBy (LearnsRedirect seat.call seat.part reply.now self.old.machine) self.old self.new }
+        ensures { LearnsThen (LearnsRedirect seat.call seat.part reply.now self.old.machine) NoPeers self.old self.new }
     {
         self.nodes.note_reply(link);
         self.want_map_if(wants_map(reply));
@@ -329,27 +355,27 @@ impl Session {
             return Ok(None);
         };
         match redirect {
-            Redirect::Ask(address) => match number_of(
-                &mut self.nodes,
-                &mut self.schedule,
-                &address,
-            )? {
+            Redirect::Ask(address) => match self.number_of(&address)? {
                 Some(node) => Ok(Some(Target::Asking(node))),
                 None => Ok(None),
             },
             Redirect::Moved(address) => {
-                if number_of(&mut self.nodes, &mut self.schedule, &address)?.is_none() {
+                if self.number_of(&address)?.is_none() {
                     return Ok(None);
                 }
-                self.table.note_moved(slot, address)?;
-                self.nodes.forget_slot(slot);
-                Ok(Some(Target::Slot(slot)))
+                self.directory.note_moved(slot, address)?;
+                Ok(Some(Target::Serving))
             }
         }
     }
 
     /// The slot of a part, if it has one.
-    pub(crate) fn slot_of(&self, seat: Seat) -> Option<u16> {
+    pub(crate) fn slot_of(&self, seat: Seat) -> Option<u16>
+        ensures some { IfSome result (λ slot. (p : PartState)
+            → part_at seat.call seat.part self.entry.now.machine ≡ Some p → p.order ≡ OfSlot slot) }
+        ensures none { IfNone result ((p : PartState)
+            → part_at seat.call seat.part self.entry.now.machine ≡ Some p → has_slot p.order ≡ false) }
+    {
         match self.machine.part(seat.call, seat.part)?.order() {
             PartOrder::OfSlot(slot) => Some(slot),
             PartOrder::Whole | PartOrder::Free => None,
@@ -358,7 +384,8 @@ impl Session {
 
     /// The host of the node of a link.
     fn host_of(&self, link: usize) -> Option<&str> {
-        Some(self.nodes.address_of_link(link)?.host())
+        let node = self.node_of_link(link)?;
+        Some(self.directory.address(node)?.host())
     }
 
     /// Notes that a part is done: those that waited for it may be asked, and the reply may be there.
@@ -415,7 +442,8 @@ impl Session {
         ensures { self.new ≡ self.old }
     {
         self.note_unreached(link);
-        self.nodes.note_closing(link);
+        let node = self.node_of_link(link);
+        self.nodes.note_closing(link, node);
     }
 
     /// Notes that the node of a link could not be reached, if the link ends without a reply.
@@ -425,7 +453,7 @@ impl Session {
         if self.nodes.has_replied(link) {
             return;
         }
-        let Some(node) = self.nodes.node_of(link) else {
+        let Some(node) = self.node_of_link(link) else {
             return;
         };
         if self.nodes.is_link_to(link, node) {
@@ -442,7 +470,8 @@ impl Session {
         match self.machine.hear(link, bytes) {
             Ok(()) => Ok(()),
             Err(error) => {
-                self.nodes.note_closing(link);
+                let node = self.node_of_link(link);
+                self.nodes.note_closing(link, node);
                 Err(error)
             }
         }
@@ -456,7 +485,9 @@ impl Session {
         self.end_connection(link);
         self.note_unreached(link);
         let has_replied = self.nodes.has_replied(link);
-        let node = self.nodes.drop_link(link);
+        let node = self.node_of_link(link);
+        self.nodes.drop_link(link, node);
+        self.peers.leave(link);
         self.want_map();
         self.lose_all(alloc, link, has_replied);
         self.want_again(node);
@@ -464,8 +495,9 @@ impl Session {
 
     /// Ends the connection of a link, if it has not ended.
     fn end_connection(&mut self, link: usize)
-        ensures ended { IsConnected self.old link → Does (On link events.End) self.old self.new }
-        ensures not { (IsConnected self.old link → ⊥) → self.new ≡ self.old }
+        ensures ended { IsConnected self.old link → Happens self.old.machine (On link events.End) self.new.machine }
+        ensures not { (IsConnected self.old link → ⊥) → self.new.machine ≡ self.old.machine }
+        ensures others { self.new ≡ record self.old { machine = self.new.machine } }
     {
         let (Some(Standing::Open) | Some(Standing::Broken)) = self.machine.standing(link) else {
             return;

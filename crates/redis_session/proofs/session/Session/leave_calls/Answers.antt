@@ -1,7 +1,7 @@
-use Rattle.std.proofs.Common.{refl}
+use Rattle.std.proofs.Common.{◌∙◌, refl, sym}
 use Rattle.session_core.specs.State.{Leave}
 use Rattle.redis_session.specs.SessionView.{view_of}
-use Rattle.redis_session.proofs.Leads.{leads_by, leads_through, own_leave}
+use Rattle.redis_session.proofs.Leads.{leads_by, leads_through}
 use Rattle.redis_session.proofs.session.Session.leave_calls.Goals as goal
 
 pub loop-preserved : goal.loop-preserved
@@ -10,4 +10,4 @@ loop-preserved c =
     let after = c.leave.new.self in
     leads_through c.args.self.now before c.loop.self after c.trim.new.self c.loop.invariant c.self-in-loop.view_is
     (leads_by before (record before { machine = after }) (Leave c.in-Some.call) (c.leave.ensures.left c.if-not-leave.false)
-    (own_leave before c.in-Some.call c.is_of.result c.is_of.ensures c.if-is_of.false) refl) c.trim.ensures
+    (sym c.is_of.ensures ∙ c.if-is_of.false) refl) c.trim.ensures

@@ -18,6 +18,6 @@ returns-in-Split c =
 pub returns-in-Several : goal.returns-in-Several
 returns-in-Several c =
     let rule = rule_there (view_of c.self.inside) c.args.self.now c.args.call c.in-Some.state.now c.several_reply.result c.self.view_is c.in-Some.ensures.some
-    c.in-Some-get.rule.now (rules.Several c.in-Several.policy) c.in-Some-get.ensures c.in-Several.is in
+    c.in-Some-get.rule.now (rules.Several c.in-Several.policy c.in-Several.field-1) c.in-Some-get.ensures c.in-Several.is in
     several_there (view_of c.self.inside) c.args.self.now c.args.call c.in-Some.state.now c.several_reply.result c.self.view_is c.in-Some.ensures.some
-    c.in-Several.policy rule c.in_default-first_unanswered.ensures c.several_reply.ensures
+    c.in-Several.policy c.in-Several.field-1 rule c.in_default-first_unanswered.ensures c.several_reply.ensures

@@ -1,0 +1,259 @@
+//! The nodes that a session knows, and which of them serves each slot.
+#![tactic(auto, using(crate::proofs::SlotNumbers::nodes_grow, crate::proofs::SlotNumbers::nodes_kept, crate::proofs::SlotNumbers::nodes_moved, crate::proofs::SlotNumbers::sets_first))]
+
+ghost use Rattle.std.specs.Prelude.{◌≡◌, ◌≢◌, ◌++◌, ◌∷◌, [], true, false, IfOk, IfSome, IfNone, OnOk, OnErr, length, slice_get, Some};
+ghost use Rattle.cluster_map.specs.Targets.{addresses_behind};
+ghost use Rattle.redis_session.specs.Directory.{AreNumbersOf, IsNodeOf};
+ghost use Rattle.redis_session.specs.Inner.SlotNumbers.{SetsNumber};
+ghost use Rattle.redis_session.specs.Learned.{LearnsReplyOf};
+ghost use Rattle.redis_session.specs.Table.{LearnsMoved, group_in};
+
+use crate::table::SlotTable;
+use cluster_map::NodeAddress;
+use redis_routing::NodeGroup;
+use std::alloc::{AllocError, Global};
+use std::collections::BTreeMap;
+use std::marker::Model;
+
+/// How many nodes a session knows at most.
+const MOST_NODES: usize = 65534;
+
+/// The number of slots.
+const SLOT_COUNT: usize = 16384;
+
+/// Stands in the place of a node's number if that was not looked up. It is above each number.
+const NO_NODE: u16 = 65535;
+
+/// The nodes that a session knows, by numbers that stay, and which of them serves each slot.
+///
+/// The number of the node of a slot is found in constant time once it was looked up.
+#[derive(Drop)]
+pub(crate) struct Directory {
+    table: SlotTable,
+    addresses: Vec<NodeAddress>,
+    numbers: BTreeMap<NodeAddress, usize>,
+    /// The number of the node of each slot, as far as it was looked up since the last change. It may be empty.
+    by_slot: Vec<u16>,
+}
+
+impl Model for Directory {
+    ghost use Rattle.redis_session.specs.Directory.{Directory};
+    ghost use Rattle.redis_session.specs.Inner.SlotNumbers.{AreNodes};
+
+    ghost Value = { Directory };
+
+    ghost view = { λ d. record { nodes = d.addresses.items; table = d.table } };
+
+    ghost invariant = { λ d. AreNodes d.by_slot.items (record { nodes = d.addresses.items; table = d.table }) };
+}
+
+impl Directory {
+    /// No node is known. Takes no memory.
+    pub(crate) fn new(alloc: Global) -> Directory
+        ensures { result ≡ record { nodes = []; table = record { map = []; moved = []; count = 0 } } }
+    {
+        Directory {
+            table: SlotTable::new(alloc),
+            addresses: Vec::new(alloc),
+            numbers: BTreeMap::new(alloc),
+            by_slot: Vec::new(alloc),
+        }
+    }
+
+    /// How many nodes are known. Their numbers are below this.
+    pub(crate) fn len(&self) -> usize
+        ensures { result ≡ length self.now.nodes }
+    {
+        self.addresses.len()
+    }
+
+    /// How many `MOVED` were learned.
+    pub(crate) fn moved_count(&self) -> u64
+        ensures { result ≡ self.now.table.count }
+    {
+        self.table.count()
+    }
+
+    /// The address of a node.
+    pub(crate) fn address(&self, node: usize) -> Option<&NodeAddress>
+        ensures some { IfSome result (λ address. slice_get self.now.nodes node ≡ Some address.now) }
+        ensures none { IfNone result (slice_get self.now.nodes node ≡ None) }
+    {
+        self.addresses.get(node)
+    }
+
+    /// The number of a node, if it is known. O(log n).
+    pub(crate) fn number(&self, address: &NodeAddress) -> Option<usize>
+        ensures { IfSome result (λ node. slice_get self.now.nodes node ≡ Some address.now) }
+    {
+        let node = *self.numbers.get(address)?;
+        // A number whose address found no memory is no node.
+        let known = self.address(node)?;
+        if known == address { Some(node) } else { None }
+    }
+
+    /// Adds a node that is not known. Returns its number, or `None` if there are too many.
+    ///
+    /// # Errors
+    ///
+    /// If memory runs out. Nothing changes then.
+    pub(crate) fn add(&mut self, address: NodeAddress) -> Result<Option<usize>, AllocError>
+        ensures some { IfOk result (λ number. IfSome number (λ node. (node ≡ length self.old.nodes)
+            × (self.new ≡ record self.old { nodes = self.old.nodes ++ address ∷ [] }))) }
+        ensures none { IfOk result (λ number. IfNone number (self.new ≡ self.old)) }
+        ensures err { OnErr result (self.new ≡ self.old) }
+    {
+        let number = self.addresses.len();
+        if number >= MOST_NODES {
+            return Ok(None);
+        }
+        self.addresses.reserve(1)?;
+        self.numbers.insert(address.clone()?, number)?;
+        self.addresses.push(address)?;
+        Ok(Some(number))
+    }
+
+    /// The number of the primary of a slot, if one serves it that is known.
+    pub(crate) fn node_of(&mut self, slot: u16) -> Option<usize>
+        ensures node { IfSome result (λ node. IsNodeOf slot node self.old) }
+        ensures state { self.new ≡ self.old }
+    {
+        if let Some(node) = self.kept_number(slot) {
+            return Some(node);
+        }
+        let node = self.number(self.table.node(slot)?)?;
+        self.keep_number(slot, node);
+        Some(node)
+    }
+
+    /// The number of the node of a slot, if it was looked up.
+    fn kept_number(&self, slot: u16) -> Option<usize>
+        ensures { IfSome result (λ node. IsNodeOf slot node self.now) }
+    {
+        let node = *self.by_slot.get(slot as usize)?;
+        if node == NO_NODE {
+            return None;
+        }
+        Some(node as usize)
+    }
+
+    /// Keeps the number of the node of a slot, if there is memory for that.
+    fn keep_number(&mut self, slot: u16, node: usize)
+        requires { IsNodeOf slot node self.old }
+        ensures { self.new ≡ self.old }
+    {
+        if let Ok(number) = u16::try_from(node) {
+            put_number(&mut self.by_slot, slot, number);
+        }
+    }
+
+    /// The numbers of the nodes of a group, by the last usable map.
+    ///
+    /// # Errors
+    ///
+    /// If memory runs out, or ran out when one of them was to be added.
+    pub(crate) fn numbers(&self, alloc: Global, group: NodeGroup) -> Result<Vec<usize>, AllocError>
+        ensures { IfOk result (λ numbers. AreNumbersOf numbers.items (group_in group self.now.table) self.now.nodes) }
+    {
+        let addresses = self.table.group(alloc, group)?;
+        let mut numbers = Vec::with_capacity(alloc, addresses.len())?;
+        for address in &addresses {
+            let Some(number) = self.number(address) else {
+                return Err(AllocError);
+            };
+            numbers.push(number)?;
+        }
+        Ok(numbers)
+    }
+
+    /// The nodes of the last usable map that are not known.
+    ///
+    /// # Errors
+    ///
+    /// If memory runs out.
+    pub(crate) fn unknown_nodes(&self, alloc: Global) -> Result<Vec<NodeAddress>, AllocError> {
+        let mut unknown = Vec::new(alloc);
+        for address in self.table.group(alloc, NodeGroup::AllNodes)? {
+            if self.number(address).is_none() {
+                unknown.push(address.clone()?)?;
+            }
+        }
+        Ok(unknown)
+    }
+
+    /// Learns a `MOVED`: this node serves the slot. No other slot changes.
+    ///
+    /// # Errors
+    ///
+    /// If memory runs out, or 2^64 - 1 `MOVED` were learned. Nothing changes then.
+    pub(crate) fn note_moved(&mut self, slot: u16, node: NodeAddress) -> Result<(), AllocError>
+        ensures learns { OnOk result (LearnsMoved slot node self.old.table self.new.table) }
+        ensures others { self.new ≡ record self.old { table = self.new.table } }
+        ensures err { OnErr result (self.new ≡ self.old) }
+    {
+        self.table.note_moved(slot, node)?;
+        set_number(&mut self.by_slot, slot, NO_NODE);
+        Ok(())
+    }
+
+    /// Learns the reply of a node to a `CLUSTER SLOTS` that was asked after `asked` `MOVED` were learned. Returns whether
+    /// the table was set.
+    ///
+    /// # Errors
+    ///
+    /// If memory runs out. Nothing changes then.
+    pub(crate) fn fill(
+        &mut self,
+        alloc: Global,
+        reply: &[u8],
+        node: usize,
+        asked: u64,
+    ) -> Result<bool, AllocError>
+        ensures learns { IfOk result (λ fills. fills ≡ true
+            → LearnsReplyOf asked reply.now self.old.table self.new.table) }
+        ensures stays { IfOk result (λ fills. fills ≡ false → self.new ≡ self.old) }
+        ensures others { self.new ≡ record self.old { table = self.new.table } }
+        ensures err { OnErr result (self.new ≡ self.old) }
+    {
+        let Some(address) = self.addresses.get(node) else {
+            return Ok(false);
+        };
+        if !self.table.fill(alloc, reply, address.host(), asked)? {
+            return Ok(false);
+        }
+        self.by_slot.clear();
+        Ok(true)
+    }
+}
+
+/// Keeps the number of a slot, if there is memory for a place of it.
+fn put_number(numbers: &mut Vec<u16>, slot: u16, number: u16)
+    ensures { SetsNumber slot number numbers.old.items numbers.new.items }
+{
+    if numbers.is_empty() {
+        put_first(numbers, slot, number);
+        return;
+    }
+    set_number(numbers, slot, number);
+}
+
+/// Keeps the first number, if there is memory for a place of each slot.
+fn put_first(numbers: &mut Vec<u16>, slot: u16, number: u16)
+    requires { length numbers.old.items ≡ 0 }
+    ensures { SetsNumber slot number numbers.old.items numbers.new.items }
+{
+    let Ok(()) = numbers.resize(SLOT_COUNT, NO_NODE) else {
+        return;
+    };
+    set_number(numbers, slot, number);
+}
+
+/// Sets the number of a slot, if there is a place for it.
+fn set_number(numbers: &mut Vec<u16>, slot: u16, number: u16)
+    ensures { SetsNumber slot number numbers.old.items numbers.new.items }
+{
+    let index = slot as usize;
+    if index < numbers.len() {
+        numbers[index] = number;
+    }
+}
