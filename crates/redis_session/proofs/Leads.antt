@@ -7,7 +7,7 @@ use Rattle.std.proofs.lemmas.Option.{same_Some}
 use Rattle.cluster_slots.specs.Address.{Address}
 use Rattle.session_core.specs.Channel.{Channel}
 use Rattle.session_core.specs.LinkEvents as link
-use Rattle.session_core.specs.State.{State, Event, On, Happens, IsLink}
+use Rattle.session_core.specs.State.{State, Event, Open, On, Forget, Begin, GiveUp, End, Finish, Leave, Trim, Happens, IsLink}
 use Rattle.session_core.specs.declared.link.BreakCause.{BreakCause}
 use Rattle.session_core.specs.declared.link.Ticket.{Ticket}
 use Rattle.session_core.specs.declared.link.Ticket.TheVariants as ticket
@@ -18,12 +18,14 @@ use Rattle.session_machine.specs.Puts.{put_for}
 use Rattle.session_machine.specs.Took.{IsKeptIn, IsTook}
 use Rattle.session_machine.specs.declared.took.Took.{Took}
 use Rattle.session_machine.specs.declared.took.Took.TheVariants.{Nothing, Kept, Back, Login, Map, Asking, Broken}
+use Rattle.redis_session.specs.Asks.{AreFewer, Asks, asked_node}
 use Rattle.redis_session.specs.Directory.{Grows}
-use Rattle.redis_session.specs.Learned.{Learns, LearnsKept, LearnsOf, LearnsRedirect, LearnsReplyOf, LearnsTook, NoPeers, Readies, ReadiesOf, ReadiesTook, Sets}
-use Rattle.redis_session.specs.Leads.{Acts, AsksLogin, BeginsLink, ChangesPeer, Does, Ends, Finishes, GivesReply, Hails, Hears, IsConnected, IsOpened, IsOwn, Knows, Leads, LearnsThen, Notes, Opens, Serves, TakesAll, TakesReplies, TakesReply, map_request}
+use Rattle.redis_session.specs.Learned.{Learns, LearnsKept, LearnsOf, LearnsRedirect, LearnsReplyOf, LearnsTook, NoAsks, NoPeers, Readies, ReadiesOf, SendsKept, SendsOf, SendsRedirect, Sets}
+use Rattle.redis_session.specs.Leads.{Acts, AsksAfter, AsksLogin, BeginsLink, ChangesPeer, Does, Ends, Finishes, GivesReply, Hails, Hears, IsConnected, IsOpened, IsOwn, Knows, Leads, LearnsThen, Notes, Opens, Serves, TakesAll, TakesReplies, TakesReply, map_request}
 use Rattle.redis_session.specs.Peers.{IsReadyTo, Peers, peer_at}
-use Rattle.redis_session.specs.SessionStates.{SessionState, without_reply}
+use Rattle.redis_session.specs.SessionStates.{SessionState, is_reply_of, without_reply}
 use Rattle.redis_session.specs.Table.{Table}
+use Rattle.redis_session.proofs.SentParts.{fewer_not}
 
 acts_on : (events more : List Event) (old mid new : SessionState) → Acts old events mid → Acts mid more new → Acts old (events ++ more) new
 acts_on [] more old mid new acts rest = subst (λ s. Acts s more new) acts rest
@@ -32,11 +34,37 @@ acts_on (e ∷ events) more old mid new acts rest = (acts.0, acts.1, acts.2, act
 pub leads_nowhere : (old new : SessionState) → new ≡ old → Leads old new
 leads_nowhere old new same = record { events = []; acts = same }
 
+asks_stay : (e : Event) (old new : Asks) → new ≡ old → AsksAfter e old new
+asks_stay (Leave call) old new same = fewer_not old new same
+asks_stay (Open number most) old new same = same
+asks_stay (On number event) old new same = same
+asks_stay (Forget number) old new same = same
+asks_stay (Begin call caller parts) old new same = same
+asks_stay (GiveUp call) old new same = same
+asks_stay (End call part cause) old new same = same
+asks_stay (Finish call state) old new same = same
+asks_stay Trim old new same = same
+
+pub does_by : (old new : SessionState) (e : Event) → Happens old.machine e new.machine → new ≡ record old { machine = new.machine } → Does e old new
+does_by old new e happens others = record {
+  happens = happens;
+  asks = asks_stay e old.asks new.asks (ap (λ (s : SessionState). s.asks) others);
+  others = others ∙ ap (λ (asks : Asks). record old { machine = new.machine; asks = asks }) (sym (ap (λ (s : SessionState). s.asks) others));
+}
+
 pub leads_by : (old new : SessionState) (e : Event) → Happens old.machine e new.machine → IsOwn old e → new ≡ record old { machine = new.machine } → Leads old new
-leads_by old new e happens own others = record { events = e ∷ []; acts = (new, record { happens = happens; others = others }, own, refl) }
+leads_by old new e happens own others = record { events = e ∷ []; acts = (new, does_by old new e happens others, own, refl) }
 
 pub leads_on : (old mid new : SessionState) → Leads old mid → Leads mid new → Leads old new
 leads_on old mid new first then = record { events = first.events ++ then.events; acts = acts_on first.events then.events old mid new first.acts then.acts }
+
+-- a call leaves, and then the session goes on
+pub leads_leave : (start before now : SessionState) (call : ℕ) (machine : State) (asks : Asks) (new : SessionState) → Leads start now → before ≡ now → Happens before.machine (Leave call) machine
+    → is_reply_of call before.given ≡ false → AreFewer before.asks asks → Leads (record before { machine = machine; asks = asks }) new → Leads start new
+leads_leave start before now call machine asks new first same happens own fewer then =
+    let mid = record before { machine = machine; asks = asks } in
+    leads_on start now new first (subst (λ (s : SessionState). Leads s new) same
+    (leads_on before mid new (record { events = Leave call ∷ []; acts = (mid, record { happens = happens; asks = fewer; others = refl }, own, refl) }) then))
 
 -- A step of the links and calls, then more.
 pub leads_through : (start before now : SessionState) (machine : State) (new : SessionState) → Leads start now → before ≡ now
@@ -57,9 +85,9 @@ leads_ok old new e (Err y) own does not others = leads_nowhere old new (others �
 
 -- a part is asked, with `ASKING` before it or without
 own_put : (s : SessionState) (asks : Bool) (node number call part : ℕ) (request : List ℕ) → IsReadyTo node number s.peers
-    → (asks ≡ false → Serves s call part node) → IsOwn s (On number (link.Put (put_for asks call part request)))
-own_put s true node number call part request ready serves = record { node = node; ready = ready; serves = tt }
-own_put s false node number call part request ready serves = record { node = node; ready = ready; serves = serves refl }
+    → (asks ≡ false → Serves s call part node) → (asks ≡ true → asked_node call part s.asks ≡ Some node) → IsOwn s (On number (link.Put (put_for asks call part request)))
+own_put s true node number call part request ready serves sent = record { node = node; ready = ready; serves = sent refl }
+own_put s false node number call part request ready serves sent = record { node = node; ready = ready; serves = serves refl }
 
 -- the map is asked for
 abbrev pub slots_bytes : List ℕ
@@ -74,16 +102,13 @@ pub own_map : (s : SessionState) (node number count : ℕ) → IsReadyTo node nu
 own_map s node number count ready is = (is, slots_same, record { node = node; ready = ready; serves = tt })
 
 pub leads_asked : {E : Type 0} (old new : SessionState) (asks : Bool) (node number call part : ℕ) (result : Result Bool E)
-    → IsReadyTo node number old.peers → (asks ≡ false → Serves old call part node)
+    → IsReadyTo node number old.peers → (asks ≡ false → Serves old call part node) → (asks ≡ true → asked_node call part old.asks ≡ Some node)
     → (result ≡ Ok true → (request : List ℕ) × Happens old.machine (On number (link.Put (put_for asks call part request))) new.machine)
     → (result ≡ Ok false → new.machine ≡ old.machine) → OnErr result (new.machine ≡ old.machine) → new ≡ record old { machine = new.machine } → Leads old new
-leads_asked old new asks node number call part (Ok true) ready serves does not fails others =
-    let it = does refl in leads_by old new (On number (link.Put (put_for asks call part it.0))) it.1 (own_put old asks node number call part it.0 ready serves) others
-leads_asked old new asks node number call part (Ok false) ready serves does not fails others = leads_nowhere old new (others ∙ ap (λ (m : State). record old { machine = m }) (not refl))
-leads_asked old new asks node number call part (Err y) ready serves does not fails others = leads_nowhere old new (others ∙ ap (λ (m : State). record old { machine = m }) fails)
-
-pub does_by : (old new : SessionState) (e : Event) → Happens old.machine e new.machine → new ≡ record old { machine = new.machine } → Does e old new
-does_by old new e happens others = record { happens = happens; others = others }
+leads_asked old new asks node number call part (Ok true) ready serves sent does not fails others =
+    let it = does refl in leads_by old new (On number (link.Put (put_for asks call part it.0))) it.1 (own_put old asks node number call part it.0 ready serves sent) others
+leads_asked old new asks node number call part (Ok false) ready serves sent does not fails others = leads_nowhere old new (others ∙ ap (λ (m : State). record old { machine = m }) (not refl))
+leads_asked old new asks node number call part (Err y) ready serves sent does not fails others = leads_nowhere old new (others ∙ ap (λ (m : State). record old { machine = m }) fails)
 
 pub ends_on : (number : ℕ) (old mid new : SessionState) → Ends number old mid → Leads mid new → Ends number old new
 ends_on number old mid new first then = record {
@@ -154,50 +179,63 @@ knows_on old mid new first then = record {
   others = then.others ∙ ap (λ (s : SessionState). record s { directory = record s.directory { nodes = new.directory.nodes } }) first.others;
 }
 
-module _ (T : Table → Table → Type 0) (P : Peers → Peers → Type 0) where
-  pub learns_nothing : (old new : SessionState) → new ≡ old → Learns T P old new
-  learns_nothing old new same = subst (λ (s : SessionState). Learns T P old s) (sym same)
-      (record { nodes = grows_not old.directory.nodes; table = inr refl; peers = inr refl; others = refl })
+module _ (T : Table → Table → Type 0) (P : Peers → Peers → Type 0) (A : List Address → Asks → Asks → Type 0) where
+  pub learns_nothing : (old new : SessionState) → new ≡ old → Learns T P A old new
+  learns_nothing old new same = subst (λ (s : SessionState). Learns T P A old s) (sym same)
+      (record { nodes = grows_not old.directory.nodes; table = inr refl; peers = inr refl; asks = inr refl; others = refl })
 
-  -- then nodes become known
-  pub learns_knows : (old mid new : SessionState) → Learns T P old mid → Knows mid new → Learns T P old new
-  learns_knows old mid new learns knows = record {
-    nodes = grows_on old.directory.nodes mid.directory.nodes new.directory.nodes learns.nodes knows.nodes;
-    table = subst (λ (s : SessionState). T old.directory.table s.directory.table ⊎ (s.directory.table ≡ old.directory.table)) (sym knows.others) learns.table;
-    peers = subst (λ (s : SessionState). P old.peers s.peers ⊎ (s.peers ≡ old.peers)) (sym knows.others) learns.peers;
-    others = knows.others
-        ∙ ap (λ (s : SessionState). record s { directory = record s.directory { nodes = new.directory.nodes } }) learns.others
-        ∙ ap (λ (s : SessionState). record old { directory = s.directory; peers = s.peers }) (sym knows.others);
-  }
-
-  pub learns_then : (old mid new : SessionState) → Learns T P old mid → Leads mid new → LearnsThen T P old new
+  pub learns_then : (old mid new : SessionState) → Learns T P A old mid → Leads mid new → LearnsThen T P A old new
   learns_then old mid new learns leads = record { wiser = mid; learns = learns; leads = leads }
 
-  pub leads_only : (old new : SessionState) → Leads old new → LearnsThen T P old new
+  pub leads_only : (old new : SessionState) → Leads old new → LearnsThen T P A old new
   leads_only old new leads = learns_then old old new (learns_nothing old old refl) leads
 
--- what is learned is also this
-pub learns_as : (T U : Table → Table → Type 0) (P Q : Peers → Peers → Type 0) (old new : SessionState) → ((a b : Table) → T a b → U a b) → ((a b : Peers) → P a b → Q a b)
-    → Learns T P old new → Learns U Q old new
-learns_as T U P Q old new f g learns = record {
-  nodes = learns.nodes;
-  table = or_stays (f old.directory.table new.directory.table) learns.table;
-  peers = or_stays (g old.peers new.peers) learns.peers;
-  others = learns.others;
+-- then nodes become known
+pub sets_knows : (T : Table → Table → Type 0) (old mid new : SessionState) → Sets T old mid → Knows mid new → Sets T old new
+sets_knows T old mid new learns knows = record {
+  nodes = grows_on old.directory.nodes mid.directory.nodes new.directory.nodes learns.nodes knows.nodes;
+  table = subst (λ (s : SessionState). T old.directory.table s.directory.table ⊎ (s.directory.table ≡ old.directory.table)) (sym knows.others) learns.table;
+  peers = subst (λ (s : SessionState). NoPeers old.peers s.peers ⊎ (s.peers ≡ old.peers)) (sym knows.others) learns.peers;
+  asks = subst (λ (s : SessionState). ⊥ ⊎ (s.asks ≡ old.asks)) (sym knows.others) learns.asks;
+  others = knows.others
+      ∙ ap (λ (s : SessionState). record s { directory = record s.directory { nodes = new.directory.nodes } }) learns.others
+      ∙ ap (λ (s : SessionState). record old { directory = s.directory; peers = s.peers; asks = s.asks }) (sym knows.others);
 }
 
-pub then_as : (T U : Table → Table → Type 0) (P Q : Peers → Peers → Type 0) (old new : SessionState) → ((a b : Table) → T a b → U a b) → ((a b : Peers) → P a b → Q a b)
-    → LearnsThen T P old new → LearnsThen U Q old new
-then_as T U P Q old new f g then = record { wiser = then.wiser; learns = learns_as T U P Q old then.wiser f g then.learns; leads = then.leads }
+-- what is learned is also this
+module _ (T U : Table → Table → Type 0) (P Q : Peers → Peers → Type 0) (A B : List Address → Asks → Asks → Type 0) (old new : SessionState) where
+  pub learns_as : ((a b : Table) → T a b → U a b) → ((a b : Peers) → P a b → Q a b) → ((nodes : List Address) (a b : Asks) → A nodes a b → B nodes a b)
+      → Learns T P A old new → Learns U Q B old new
+  learns_as f g h learns = record {
+    nodes = learns.nodes;
+    table = or_stays (f old.directory.table new.directory.table) learns.table;
+    peers = or_stays (g old.peers new.peers) learns.peers;
+    asks = or_stays (h new.directory.nodes old.asks new.asks) learns.asks;
+    others = learns.others;
+  }
+
+pub then_as : (T U : Table → Table → Type 0) (P : Peers → Peers → Type 0) (A B : List Address → Asks → Asks → Type 0) (old new : SessionState) → ((a b : Table) → T a b → U a b)
+    → ((nodes : List Address) (a b : Asks) → A nodes a b → B nodes a b) → LearnsThen T P A old new → LearnsThen U P B old new
+then_as T U P A B old new f h then =
+    record { wiser = then.wiser; learns = learns_as T U P P A B old then.wiser f (λ a b p. p) h then.learns; leads = then.leads }
 
 -- no peer changes
-no_peers : (P : Peers → Peers → Type 0) (a b : Peers) → NoPeers a b → P a b
+pub no_peers : (P : Peers → Peers → Type 0) (a b : Peers) → NoPeers a b → P a b
 no_peers P a b none = absurd none
 
-pub sets_then : (T : State → Table → Table → Type 0) (P : Peers → Peers → Type 0) (before old mid new : SessionState) → old ≡ before
-    → Sets (T old.machine) old mid → Leads mid new → LearnsThen (T before.machine) P before new
-sets_then T P before old mid new same sets leads = subst (λ (s : SessionState). LearnsThen (T s.machine) P s new) same
-    (learns_then (T old.machine) P old mid new (learns_as (T old.machine) (T old.machine) NoPeers P old mid (λ a b t. t) (no_peers P) sets) leads)
+-- what was learned of a part is noted, and then the session goes on
+pub sent_then : (T : State → Table → Table → Type 0) (P : Peers → Peers → Type 0) (A : State → List Address → Asks → Asks → Type 0) (before old mid new : SessionState) → old ≡ before
+    → Learns (T old.machine) NoPeers (A old.machine) old mid → Leads mid new → LearnsThen (T before.machine) P (A before.machine) before new
+sent_then T P A before old mid new same learns leads = subst (λ (s : SessionState). LearnsThen (T s.machine) P (A s.machine) s new) same
+    (learns_then (T old.machine) P (A old.machine) old mid new
+    (learns_as (T old.machine) (T old.machine) NoPeers P (A old.machine) (A old.machine) old mid (λ a b t. t) (no_peers P) (λ n a b s. s) learns) leads)
+
+-- the last refusal of a part, which it keeps, sends it on
+kept_sends : (seat : Seat) (reply : List ℕ) (s : State) (nodes : List Address) (old new : Asks) → IsKeptIn seat.call seat.part reply s → SendsKept seat s nodes old new → SendsRedirect seat.call seat.part reply s nodes old new
+kept_sends seat reply s nodes old new kept sends =
+    let same : sends.1 ≡ kept.0 = same_Some sends.1 kept.0 (sym sends.2 ∙ kept.1) in
+    let phase : kept.0.phase ≡ Refused sends.0 = ap (λ (p : PartState). p.phase) (sym same) ∙ sends.3 in
+    subst (λ (r : List ℕ). SendsRedirect seat.call seat.part r s nodes old new) (kept_reply reply sends.0 kept.0.phase kept.2 phase) sends.4
 
 module _ (number : ℕ) (old : SessionState) (machine : State) (new : SessionState) where
   -- what was taken, and what was noted of it
@@ -209,12 +247,12 @@ module _ (number : ℕ) (old : SessionState) (machine : State) (new : SessionSta
       mid = record old { machine = machine }
 
       taken_by : (ticket : Ticket) (reply : List ℕ) → Happens old.machine (On number (link.Take ticket reply)) machine
-          → LearnsThen (LearnsOf machine ticket reply) (ReadiesOf number ticket reply) mid new → TakesReply number old new
+          → LearnsThen (LearnsOf machine ticket reply) (ReadiesOf number ticket reply) (SendsOf machine ticket reply) mid new → TakesReply number old new
       taken_by ticket reply happens notes = record {
         ticket = ticket;
         reply = reply;
         mid = mid;
-        taken = record { happens = happens; others = refl };
+        taken = record { happens = happens; asks = refl; others = refl };
         wiser = notes.wiser;
         learns = notes.learns;
         leads = notes.leads;
@@ -225,8 +263,8 @@ module _ (number : ℕ) (old : SessionState) (machine : State) (new : SessionSta
       by Nothing is some whole notes = absurd (some refl)
       by (Broken cause) is some whole notes = absurd (whole cause refl)
       by (Kept seat) is some whole notes = let part = ticket.Part seat.call seat.part in taken_by part is.0 is.1
-          (then_as (LearnsKept seat machine) (LearnsOf machine part is.0) (ReadiesTook number (Kept seat)) (ReadiesOf number part is.0) mid new
-          (λ a b. kept_learns seat is.0 machine a b is.2) (λ a b r. r) notes)
+          (then_as (LearnsKept seat machine) (LearnsOf machine part is.0) (ReadiesOf number part is.0) (SendsKept seat machine) (SendsOf machine part is.0) mid new
+          (λ a b. kept_learns seat is.0 machine a b is.2) (λ nodes a b. kept_sends seat is.0 machine nodes a b is.2) notes)
       by (Back seat reply) is some whole notes = taken_by (ticket.Part seat.call seat.part) reply.items is.0 notes
       by (Login reply) is some whole notes = taken_by ticket.Login reply.items is notes
       by (Map count reply) is some whole notes = taken_by (ticket.Map count) reply.items is notes
@@ -235,19 +273,20 @@ module _ (number : ℕ) (old : SessionState) (machine : State) (new : SessionSta
 pub map_noted : (number : ℕ) (took : Took) (count : ℕ) (reply : Vec ℕ Global) (bytes : List ℕ) (old new : SessionState) → took ≡ Map count reply → bytes ≡ reply.items
     → Sets (LearnsReplyOf count bytes) old new → Notes number took old new
 map_noted number took count reply bytes old new is same sets = subst (λ (t : Took). Notes number t old new) (sym is)
-    (subst (λ (b : List ℕ). LearnsThen (LearnsReplyOf count b) NoPeers old new) same
-    (sets_then (λ s. LearnsReplyOf count bytes) NoPeers old old new new refl sets (leads_nowhere new new refl)))
+    (subst (λ (b : List ℕ). LearnsThen (LearnsReplyOf count b) NoPeers NoAsks old new) same
+    (learns_then (LearnsReplyOf count bytes) NoPeers NoAsks old new new sets (leads_nowhere new new refl)))
 
 pub login_noted : (number : ℕ) (took : Took) (reply : Vec ℕ Global) (bytes : List ℕ) (old new : SessionState) → took ≡ Login reply → bytes ≡ reply.items
     → Hails number bytes old new → Notes number took old new
 login_noted number took reply bytes old new is same hails = subst (λ (t : Took). Notes number t old new) (sym is)
-    (subst (λ (b : List ℕ). LearnsThen (LearnsTook old.machine (Login reply)) (Readies number b) old new) same (record {
+    (subst (λ (b : List ℕ). LearnsThen (LearnsTook old.machine (Login reply)) (Readies number b) NoAsks old new) same (record {
       wiser = new;
       learns = record {
         nodes = subst (λ (s : SessionState). Grows old.directory.nodes s.directory.nodes) (sym hails.others) (grows_not old.directory.nodes);
         table = inr (ap (λ (s : SessionState). s.directory.table) hails.others);
         peers = hails.peers;
-        others = hails.others ∙ ap (λ (s : SessionState). record old { directory = s.directory; peers = new.peers }) (sym hails.others);
+        asks = inr (ap (λ (s : SessionState). s.asks) hails.others);
+        others = hails.others ∙ ap (λ (s : SessionState). record old { directory = s.directory; peers = new.peers; asks = s.asks }) (sym hails.others);
       };
       leads = leads_nowhere new new refl;
     }))
@@ -283,7 +322,7 @@ hears_by number bytes old mid new hears takes = record { mid = mid; hears = hear
 pub login_asked : (number : ℕ) (old : SessionState) (machine : State) (request : List ℕ) → request ≡ old.settings.login
     → Happens old.machine (On number (link.Put ((ticket.Login, request) ∷ []))) machine → AsksLogin number old (record old { machine = machine })
 login_asked number old machine request is happens =
-    inr (record { happens = subst (λ (r : List ℕ). Happens old.machine (On number (link.Put ((ticket.Login, r) ∷ []))) machine) is happens; others = refl })
+    inr (record { happens = subst (λ (r : List ℕ). Happens old.machine (On number (link.Put ((ticket.Login, r) ∷ []))) machine) is happens; asks = refl; others = refl })
 
 pub opens_by : (number node : ℕ) (old mid ready new : SessionState) → IsOpened number old mid → BeginsLink number node mid ready → Leads ready new → Opens number node old new
 opens_by number node old mid ready new opened begins leads = record { mid = mid; opened = opened; ready = ready; begins = begins; leads = leads }

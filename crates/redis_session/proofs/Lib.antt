@@ -8,6 +8,7 @@ mod NodeTables
 mod OwnSlots
 mod PartLists
 mod Redirects
+mod SentParts
 mod Serving
 mod SlotNumbers
 mod TableNames

@@ -1,6 +1,6 @@
 -- Redirects in errors.
 use Rattle.std.proofs.Common.{◌≡◌, ◌++◌, ◌∙◌, ◌⊎◌, inl, inr, ℕ, List, Bool, true, false, Ok, Err, OnErr, Option, None, Some, take, drop, refl, sym, ap, subst}
-use Rattle.std.specs.Prelude.{Result, IfOk, IfSome, MatchOption, bytes_eq, codes}
+use Rattle.std.specs.Prelude.{Result, IfOk, IfSome, MatchOption, bytes_eq, codes, slice_get}
 use Rattle.std.specs.Cmp.Lexicographic.{bytes_decides}
 use Rattle.std.proofs.lemmas.List.{take-append-drop}
 use Rattle.resp.specs.Forms.{crlf}
@@ -10,11 +10,11 @@ use Rattle.session_core.specs.declared.ordered_part.Seat.{Seat}
 use Rattle.session_core.specs.Part.{PartState, Refused}
 use Rattle.session_core.specs.State.{State, part_at}
 use Rattle.cluster_slots.specs.Address.{Address}
-use Rattle.redis_routing.specs.declared.info.Redirect.TheVariants.{Moved}
+use Rattle.redis_routing.specs.declared.info.Redirect.TheVariants.{Ask, Moved}
+use Rattle.redis_session.specs.Asks.{Asks, SendsPart}
 use Rattle.redis_session.specs.Directory.{Directory, Grows}
-use Rattle.redis_session.specs.Learned.{IsRedirectIn, LearnsKept, LearnsRedirect, LearnsReplyOf, LearnsTold, NoPeers, SendsOn, Sets}
+use Rattle.redis_session.specs.Learned.{IsRedirectIn, Learns, LearnsKept, LearnsRedirect, LearnsReplyOf, LearnsTold, NoPeers, SendsKept, SendsOn, SendsRedirect, SendsTold, Sets}
 use Rattle.redis_session.specs.Leads.{Knows}
-use Rattle.redis_session.specs.Peers.{Peers}
 use Rattle.redis_session.specs.Table.{LearnsMoved, Table}
 use Rattle.redis_session.specs.SessionStates.{SessionState}
 use Rattle.redis_session.proofs.Leads.{grows_not, learns_as}
@@ -40,40 +40,62 @@ redirect_read answering text reply (Ok (Some told)) is read = (answering, text, 
 redirect_read answering text reply (Ok None) is read = tt
 redirect_read answering text reply (Err y) is read = tt
 
--- ---- what a table learns of them
+-- ---- what a session learns of them
 
-module _ (it : PartState) (s : State) (call part : ℕ) (there : part_at call part s ≡ Some it) (old new : SessionState) where
+module _ (it : PartState) (s : State) (seat : Seat) (there : part_at seat.call seat.part s ≡ Some it) (old new : SessionState) where
   -- a refusal of the part
   pub told_learns : {E : Type 0} (reply : List ℕ) (told : Result (Option (ℕ × Redirect)) E) → IfOk told (λ t. IfSome t (λ to. SendsOn it reply to.0 to.1))
-      → Sets (LearnsTold told) old new → Sets (LearnsRedirect call part reply s) old new
-  told_learns {E = E} reply told sends = learns_as (LearnsTold told) (LearnsRedirect call part reply s) NoPeers NoPeers old new as_redirect (λ a b none. none)
+      → Learns (LearnsTold told) NoPeers (SendsTold seat told) old new → Learns (LearnsRedirect seat.call seat.part reply s) NoPeers (SendsRedirect seat.call seat.part reply s) old new
+  told_learns {E = E} reply told sends =
+      learns_as (LearnsTold told) (LearnsRedirect seat.call seat.part reply s) NoPeers NoPeers (SendsTold seat told) (SendsRedirect seat.call seat.part reply s) old new
+      as_redirect (λ a b none. none) as_sent
     where
-      as_redirect : (a b : Table) → LearnsTold told a b → LearnsRedirect call part reply s a b
-      as_redirect a b l = record {
-        it = it;
-        part_is = there;
-        slot = l.0;
-        node = l.1;
-        sent = subst (λ (t : Result (Option (ℕ × Redirect)) E). IfOk t (λ o. IfSome o (λ to. SendsOn it reply to.0 to.1))) l.2 sends;
-        learns = l.3;
-      }
+      is_sent : (slot : ℕ) (redirect : Redirect) → told ≡ Ok (Some (slot, redirect)) → SendsOn it reply slot redirect
+      is_sent slot redirect is = subst (λ (t : Result (Option (ℕ × Redirect)) E). IfOk t (λ o. IfSome o (λ to. SendsOn it reply to.0 to.1))) is sends
+
+      as_redirect : (a b : Table) → LearnsTold told a b → LearnsRedirect seat.call seat.part reply s a b
+      as_redirect a b l = record { it = it; part_is = there; slot = l.0; node = l.1; sent = is_sent l.0 (Moved l.1) l.2; learns = l.3 }
+
+      as_sent : (nodes : List Address) (a b : Asks) → SendsTold seat told nodes a b → SendsRedirect seat.call seat.part reply s nodes a b
+      as_sent nodes a b l =
+          record { it = it; part_is = there; slot = l.0; address = l.1; sent = is_sent l.0 (Ask l.1) l.2; node = l.3; node_is = l.4; sends = l.5 }
 
 pub kept_learned : (it : PartState) (s : State) (seat : Seat) (reply : List ℕ) (old new : SessionState) → part_at seat.call seat.part s ≡ Some it → it.phase ≡ Refused reply
-    → Sets (LearnsRedirect seat.call seat.part reply s) old new → Sets (LearnsKept seat s) old new
+    → Learns (LearnsRedirect seat.call seat.part reply s) NoPeers (SendsRedirect seat.call seat.part reply s) old new → Learns (LearnsKept seat s) NoPeers (SendsKept seat s) old new
 kept_learned it s seat reply old new there refused =
-    learns_as (LearnsRedirect seat.call seat.part reply s) (LearnsKept seat s) NoPeers NoPeers old new (λ a b learns. (reply, it, there, refused, learns)) (λ a b none. none)
+    learns_as (LearnsRedirect seat.call seat.part reply s) (LearnsKept seat s) NoPeers NoPeers (SendsRedirect seat.call seat.part reply s) (SendsKept seat s) old new
+    (λ a b learns. (reply, it, there, refused, learns)) (λ a b none. none) (λ nodes a b sends. (reply, it, there, refused, sends))
 
 -- a node became known, and then the table learned of it
-pub told_learned : {E : Type 0} (told : Result (Option (ℕ × Redirect)) E) (slot : ℕ) (node : Address) (old mid new : SessionState) → told ≡ Ok (Some (slot, Moved node)) → Knows old mid
-    → LearnsMoved slot node mid.directory.table new.directory.table → new ≡ record mid { directory = record mid.directory { table = new.directory.table } } → Sets (LearnsTold told) old new
-told_learned told slot node old mid new is knows learns others = record {
-  nodes = subst (λ (s : SessionState). Grows old.directory.nodes s.directory.nodes) (sym others) knows.nodes;
-  table = inl (slot, node, is, subst (λ (t : Table). LearnsMoved slot node t new.directory.table) (ap (λ (s : SessionState). s.directory.table) knows.others) learns);
-  peers = inr (ap (λ (s : SessionState). s.peers) others ∙ ap (λ (s : SessionState). s.peers) knows.others);
-  others = others ∙ ap (λ (s : SessionState). record s { directory = record s.directory { table = new.directory.table } }) knows.others
-      ∙ ap (λ (s : SessionState). record old { directory = s.directory }) (sym others) ∙ ap (λ (p : Peers). record old { directory = new.directory; peers = p })
-      (sym (ap (λ (s : SessionState). s.peers) others ∙ ap (λ (s : SessionState). s.peers) knows.others));
-}
+pub told_moved : {E : Type 0} (told : Result (Option (ℕ × Redirect)) E) (seat : Seat) (slot : ℕ) (node : Address) (old mid new : SessionState) → told ≡ Ok (Some (slot, Moved node)) → Knows old mid
+    → LearnsMoved slot node mid.directory.table new.directory.table → new ≡ record mid { directory = record mid.directory { table = new.directory.table } }
+    → Learns (LearnsTold told) NoPeers (SendsTold seat told) old new
+told_moved told seat slot node old mid new is knows learns others =
+    let then : new ≡ record old { directory = record mid.directory { table = new.directory.table } } =
+    others ∙ ap (λ (s : SessionState). record s { directory = record mid.directory { table = new.directory.table } }) knows.others in
+    record {
+      nodes = subst (λ (s : SessionState). Grows old.directory.nodes s.directory.nodes) (sym others) knows.nodes;
+      table = inl (slot, node, is, subst (λ (t : Table). LearnsMoved slot node t new.directory.table) (ap (λ (s : SessionState). s.directory.table) knows.others) learns);
+      peers = inr (ap (λ (s : SessionState). s.peers) then);
+      asks = inr (ap (λ (s : SessionState). s.asks) then);
+      others = subst (λ (s : SessionState). s ≡ record old { directory = s.directory; peers = s.peers; asks = s.asks }) (sym then) refl;
+    }
+
+-- a node became known, and the part is sent there once
+pub told_asked : {E : Type 0} (told : Result (Option (ℕ × Redirect)) E) (seat : Seat) (slot node : ℕ) (address : Address) (old mid new : SessionState) → told ≡ Ok (Some (slot, Ask address)) → Knows old mid
+    → slice_get mid.directory.nodes node ≡ Some address → SendsPart seat.call seat.part node mid.asks new.asks → new ≡ record mid { asks = new.asks }
+    → Learns (LearnsTold told) NoPeers (SendsTold seat told) old new
+told_asked told seat slot node address old mid new is knows node_is sends others =
+    let then : new ≡ record old { directory = mid.directory; asks = new.asks } =
+    others ∙ ap (λ (s : SessionState). record s { directory = mid.directory; asks = new.asks }) knows.others in
+    record {
+      nodes = subst (λ (s : SessionState). Grows old.directory.nodes s.directory.nodes) (sym others) knows.nodes;
+      table = inr (ap (λ (s : SessionState). s.directory.table) others ∙ ap (λ (s : SessionState). s.directory.table) knows.others);
+      peers = inr (ap (λ (s : SessionState). s.peers) then);
+      asks = inl (slot, address, is, node, subst (λ (s : SessionState). slice_get s.directory.nodes node ≡ Some address) (sym others) node_is,
+          subst (λ (a : Asks). SendsPart seat.call seat.part node a new.asks) (ap (λ (s : SessionState). s.asks) knows.others) sends);
+      others = subst (λ (s : SessionState). s ≡ record old { directory = s.directory; peers = s.peers; asks = s.asks }) (sym then) refl;
+    }
 
 -- ---- and of maps
 
@@ -86,6 +108,7 @@ filled_sets {E = E} asked reply result before old directory same learns stays fa
       nodes = subst (λ (d : Directory). Grows before.directory.nodes d.nodes) (sym others) (grows_not before.directory.nodes);
       table = by result learns stays fails;
       peers = inr refl;
+      asks = inr refl;
       others = refl;
     })
   where

@@ -14,11 +14,13 @@ use Rattle.session_core.specs.LinkEvents as link
 use Rattle.session_core.specs.State.{CallState, Event, Open, On, Forget, Begin, GiveUp, End, Finish, Leave, Trim, Happens, IsLink, call_at, part_at}
 use Rattle.session_core.specs.Part.{PartState, is_done}
 use Rattle.session_machine.specs.declared.took.Took.{Took}
+use Rattle.cluster_slots.specs.Address.{Address}
+use Rattle.redis_session.specs.Asks.{AreFewer, Asks, asked_node}
 use Rattle.redis_session.specs.Begins.{IsErrand}
 use Rattle.redis_session.specs.CallReplies.{IsReplyTo}
 use Rattle.redis_session.specs.Deadlines.{Forgets, deadline_of, is_over}
 use Rattle.redis_session.specs.Directory.{Directory, Grows, IsNodeOf}
-use Rattle.redis_session.specs.Learned.{Learns, LearnsOf, LearnsTook, Readies, ReadiesOf, ReadiesTook}
+use Rattle.redis_session.specs.Learned.{Learns, LearnsOf, LearnsTook, Readies, ReadiesOf, ReadiesTook, SendsOf, SendsTook}
 use Rattle.redis_session.specs.Peers.{IsReadyTo, Peers, SetsPeer, peer_at}
 use Rattle.redis_session.specs.Rules.{KeepOthers, is_several, node_in, rule_in, without}
 use Rattle.redis_session.specs.SessionStates.{SessionState, is_reply_of, last_reply, names, without_reply}
@@ -49,9 +51,10 @@ abbrev pub Serves : SessionState → (call part node : ℕ) → Type 0
 Serves s call part node = (p : PartState) → part_at call part s.machine ≡ Some p
     → IsNodeFor s.directory (rule_in s.rules call) part p.order node
 
--- A part that is asked without `ASKING` is served by the node of this number.
+-- The node of this number serves the part that is asked, or the last `ASK` for the part named it, and `ASKING` goes first.
 abbrev pub IsServedBy : SessionState → ℕ → List Ask → Type 0
 IsServedBy s node ((Part call part, request) ∷ []) = Serves s call part node
+IsServedBy s node (first ∷ (Part call part, request) ∷ []) = asked_node call part s.asks ≡ Some node
 IsServedBy s node other = Unit {0}
 
 -- Parts may be asked on the link, and its node serves what is asked.
@@ -80,10 +83,16 @@ IsOwn s (Leave call) = is_reply_of call s.given ≡ false
 IsOwn s Trim = Unit {0}
 IsOwn s other = ⊥
 
+-- with a call that leaves, the session may forget where its parts were sent
+abbrev pub AsksAfter : Event → Asks → Asks → Type 0
+AsksAfter (Leave call) old new = AreFewer old new
+AsksAfter other old new = new ≡ old
+
 -- This happens to the links and calls of a session, and nothing else of it changes.
 pub record Does (event : Event) (old new : SessionState) : Type 0 where
   pub happens : Happens old.machine event new.machine
-  pub others : new ≡ record old { machine = new.machine }
+  pub asks : AsksAfter event old.asks new.asks
+  pub others : new ≡ record old { machine = new.machine; asks = new.asks }
 
 -- The session does these things by itself, one after the other.
 abbrev pub Acts : SessionState → List Event → SessionState → Type 0
@@ -124,7 +133,8 @@ pub record TakesReply (number : ℕ) (old new : SessionState) : Type 0 where
   pub mid : SessionState
   pub taken : Does (On number (link.Take ticket reply)) old mid
   pub wiser : SessionState
-  pub learns : Learns (LearnsOf mid.machine ticket reply) (ReadiesOf number ticket reply) mid wiser
+  pub learns : Learns (LearnsOf mid.machine ticket reply) (ReadiesOf number ticket reply)
+      (SendsOf mid.machine ticket reply) mid wiser
   pub leads : Leads wiser new
 
 -- so many, one after the other
@@ -133,14 +143,16 @@ TakesReplies zero number old new = new ≡ old
 TakesReplies (suc count) number old new = (mid : SessionState) × TakesReply number old mid × TakesReplies count number mid new
 
 -- The session learns this, and goes on by itself.
-pub record LearnsThen (HowTable : Table → Table → Type 0) (HowPeers : Peers → Peers → Type 0) (old new : SessionState) : Type 0 where
+pub record LearnsThen (HowTable : Table → Table → Type 0) (HowPeers : Peers → Peers → Type 0) (HowAsks : List Address → Asks → Asks → Type 0)
+    (old new : SessionState) : Type 0 where
   pub wiser : SessionState
-  pub learns : Learns HowTable HowPeers old wiser
+  pub learns : Learns HowTable HowPeers HowAsks old wiser
   pub leads : Leads wiser new
 
 -- What was taken on this link is noted: the session learns of it, and goes on by itself.
 abbrev pub Notes : ℕ → Took → SessionState → SessionState → Type 0
-Notes number took old new = LearnsThen (LearnsTook old.machine took) (ReadiesTook number took) old new
+Notes number took old new =
+    LearnsThen (LearnsTook old.machine took) (ReadiesTook number took) (SendsTook old.machine took) old new
 
 -- Replies are taken on this link, and then the session goes on by itself.
 pub record TakesAll (number : ℕ) (old new : SessionState) : Type 0 where

@@ -1,12 +1,12 @@
 -- What a session learns of the nodes that serve slots, and of whom.
-use Rattle.std.specs.Prelude.{◌≡◌, ◌⊎◌, ◌++◌, ℕ, true, false, List, Option, Some, Result, Ok, codes}
+use Rattle.std.specs.Prelude.{◌≡◌, ◌⊎◌, ◌++◌, ℕ, true, false, List, Option, Some, Result, Ok, codes, slice_get}
 use Rattle.resp.specs.Forms.{crlf}
 use Rattle.resp_core.specs.Reply.{Reply}
 use Rattle.cluster_slots.specs.Address.{Address}
 use Rattle.cluster_map.specs.ReplyNode.{entries_in}
 use Rattle.redis_routing.specs.RedirectText.{IsRedirectText}
 use Rattle.redis_routing.specs.declared.info.Redirect.{Redirect}
-use Rattle.redis_routing.specs.declared.info.Redirect.TheVariants.{Moved}
+use Rattle.redis_routing.specs.declared.info.Redirect.TheVariants.{Ask, Moved}
 use Rattle.redis_bytes.specs.Replies.{IsReply}
 use Rattle.session_core.specs.declared.link.Ticket.{Ticket}
 use Rattle.session_core.specs.declared.link.Ticket.TheVariants.{Login, Map, Part}
@@ -16,6 +16,7 @@ use Rattle.session_core.specs.Part.{PartState, Refused, is_refusal}
 use Rattle.session_core.specs.State.{State, part_at}
 use Rattle.session_machine.specs.declared.took.Took.{Took}
 use Rattle.session_machine.specs.declared.took.Took.TheVariants as took
+use Rattle.redis_session.specs.Asks.{Asks, SendsPart}
 use Rattle.redis_session.specs.Directory.{Grows}
 use Rattle.redis_session.specs.Peers.{Peers, SetsPeer, peer_at}
 use Rattle.redis_session.specs.SessionStates.{SessionState}
@@ -44,6 +45,17 @@ pub record LearnsRedirect (call part : ℕ) (reply : List ℕ) (s : State) (old 
   pub node : Address
   pub sent : SendsOn it reply slot (Moved node)
   pub learns : LearnsMoved slot node old new
+
+-- A part was refused by this reply, which sends it to a node once. The session notes that, of no other part.
+pub record SendsRedirect (call part : ℕ) (reply : List ℕ) (s : State) (nodes : List Address) (old new : Asks) : Type 0 where
+  pub it : PartState
+  pub part_is : part_at call part s ≡ Some it
+  pub slot : ℕ
+  pub address : Address
+  pub sent : SendsOn it reply slot (Ask address)
+  pub node : ℕ
+  pub node_is : slice_get nodes node ≡ Some address
+  pub sends : SendsPart call part node old new
 
 -- The reply has a usable map, which was asked for after so many `MOVED` were learned. The table learns it. A host
 -- that the reply leaves out is `host`.
@@ -75,31 +87,57 @@ abbrev pub ReadiesOf : ℕ → Ticket → List ℕ → Peers → Peers → Type 
 ReadiesOf link Login reply old new = Readies link reply old new
 ReadiesOf link other reply old new = ⊥
 
--- The session may come to know nodes. The table learns this and the peers change so, or they stay. Nothing else changes.
-pub record Learns (HowTable : Table → Table → Type 0) (HowPeers : Peers → Peers → Type 0) (old new : SessionState) : Type 0 where
+-- where a part is sent with the reply for this ticket
+abbrev pub SendsOf : State → Ticket → List ℕ → List Address → Asks → Asks → Type 0
+SendsOf s (Part call part) reply nodes old new = SendsRedirect call part reply s nodes old new
+SendsOf s other reply nodes old new = ⊥
+
+-- The session may come to know nodes. The table learns this, the peers change so, and parts are sent there, or they stay.
+-- Nothing else changes.
+pub record Learns (HowTable : Table → Table → Type 0) (HowPeers : Peers → Peers → Type 0) (HowAsks : List Address → Asks → Asks → Type 0)
+    (old new : SessionState) : Type 0 where
   pub nodes : Grows old.directory.nodes new.directory.nodes
   pub table : HowTable old.directory.table new.directory.table ⊎ (new.directory.table ≡ old.directory.table)
   pub peers : HowPeers old.peers new.peers ⊎ (new.peers ≡ old.peers)
-  pub others : new ≡ record old { directory = new.directory; peers = new.peers }
+  pub asks : HowAsks new.directory.nodes old.asks new.asks ⊎ (new.asks ≡ old.asks)
+  pub others : new ≡ record old { directory = new.directory; peers = new.peers; asks = new.asks }
 
 -- ---- as functions take it
 
 abbrev pub NoPeers : Peers → Peers → Type 0
 NoPeers old new = ⊥
 
+abbrev pub NoAsks : List Address → Asks → Asks → Type 0
+NoAsks nodes old new = ⊥
+
 -- the session may come to know nodes, and the table learns this or stays
 abbrev pub Sets : (Table → Table → Type 0) → SessionState → SessionState → Type 0
-Sets How old new = Learns How NoPeers old new
+Sets How old new = Learns How NoPeers NoAsks old new
+
+-- a part was refused by this reply, which the session learns
+abbrev pub IsSentOn : (call part : ℕ) → List ℕ → SessionState → SessionState → Type 0
+IsSentOn call part reply old new =
+    Learns (LearnsRedirect call part reply old.machine) NoPeers (SendsRedirect call part reply old.machine) old new
 
 -- where a part is sent on, as the table learns it
 abbrev pub LearnsTold : {E : Type 0} → Result (Option (ℕ × Redirect)) E → Table → Table → Type 0
 LearnsTold told old new =
     (slot : ℕ) × (node : Address) × (told ≡ Ok (Some (slot, Moved node))) × LearnsMoved slot node old new
 
+-- where a part is sent once, as the session notes it
+abbrev pub SendsTold : {E : Type 0} → Seat → Result (Option (ℕ × Redirect)) E → List Address → Asks → Asks → Type 0
+SendsTold seat told nodes old new = (slot : ℕ) × (address : Address) × (told ≡ Ok (Some (slot, Ask address)))
+    × (node : ℕ) × (slice_get nodes node ≡ Some address) × SendsPart seat.call seat.part node old new
+
 -- the part was refused by a reply that it keeps, which the table learns
 abbrev pub LearnsKept : Seat → State → Table → Table → Type 0
 LearnsKept seat s old new = (reply : List ℕ) × (p : PartState) × (part_at seat.call seat.part s ≡ Some p)
     × (p.phase ≡ Refused reply) × LearnsRedirect seat.call seat.part reply s old new
+
+-- the part was refused by a reply that it keeps, which sends it to a node once
+abbrev pub SendsKept : Seat → State → List Address → Asks → Asks → Type 0
+SendsKept seat s nodes old new = (reply : List ℕ) × (p : PartState) × (part_at seat.call seat.part s ≡ Some p)
+    × (p.phase ≡ Refused reply) × SendsRedirect seat.call seat.part reply s nodes old new
 
 -- what the table learns of what was taken
 abbrev pub LearnsTook : State → Took → Table → Table → Type 0
@@ -112,3 +150,9 @@ LearnsTook s other old new = ⊥
 abbrev pub ReadiesTook : ℕ → Took → Peers → Peers → Type 0
 ReadiesTook link (took.Login reply) old new = Readies link reply.items old new
 ReadiesTook link other old new = ⊥
+
+-- where parts are sent with what was taken
+abbrev pub SendsTook : State → Took → List Address → Asks → Asks → Type 0
+SendsTook s (took.Kept seat) nodes old new = SendsKept seat s nodes old new
+SendsTook s (took.Back seat reply) nodes old new = SendsRedirect seat.call seat.part reply.items s nodes old new
+SendsTook s other nodes old new = ⊥

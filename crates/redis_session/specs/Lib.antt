@@ -6,6 +6,7 @@ pub use Rattle.redis_routing.specs.Upper
 pub use Rattle.redis_bytes.specs.Replies
 pub use Rattle.redis_bytes.specs.Requests
 pub mod Added
+pub mod Asks
 pub mod Begins
 pub mod CallReplies
 pub mod CommandKinds

@@ -5,6 +5,7 @@ use Rattle.session_core.specs.State.{State, part_at, start}
 use Rattle.redis_routing.specs.Names.{Names, names_of}
 use Rattle.redis_routing.specs.Registry.{Registrations}
 use Rattle.redis_session.specs.Added.{Added}
+use Rattle.redis_session.specs.Asks.{Asks}
 use Rattle.redis_session.specs.Deadlines.{Deadlines}
 use Rattle.redis_session.specs.Directory.{Directory}
 use Rattle.redis_session.specs.Peers.{Peers}
@@ -70,6 +71,8 @@ pub record SessionState : Type 0 where
   pub directory : Directory
   -- the node at the other end of each link
   pub peers : Peers
+  -- the node to which the last `ASK` sent each part
+  pub asks : Asks
   -- when the times of its calls are over
   pub deadlines : Deadlines
   -- the time that was noted last
@@ -84,6 +87,7 @@ new_session settings = record {
   given = Nothing;
   directory = record { nodes = []; table = record { map = []; moved = []; count = 0 } };
   peers = [];
+  asks = [];
   deadlines = [];
   now = 0;
   settings = settings;

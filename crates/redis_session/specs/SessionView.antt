@@ -9,6 +9,7 @@ view_of s = record {
   given = given_of s.reply;
   directory = s.directory;
   peers = s.peers;
+  asks = s.asks;
   deadlines = s.deadlines;
   now = s.now;
   settings = settings_of s.settings;

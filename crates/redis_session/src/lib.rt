@@ -25,6 +25,7 @@
 #![tactic(auto)]
 
 mod added;
+mod asks;
 mod call_deadlines;
 mod directory;
 mod kind;

@@ -33,8 +33,8 @@ pub(crate) enum Room {
 pub(crate) enum Target {
     /// At a node that serves it.
     Serving,
-    /// At the node of this number, after `ASKING`.
-    Asking(usize),
+    /// At the node to which the last `ASK` sent it, after `ASKING`.
+    Asking,
 }
 
 /// Parts that wait for one thing, in the order in which they came.

@@ -7,6 +7,7 @@ mod asking;
 mod replying;
 mod taking;
 
+use crate::asks::Asks;
 use crate::call_deadlines::CallDeadlines;
 use crate::directory::Directory;
 use crate::nodes::{NodeLink, Nodes};
@@ -30,6 +31,7 @@ pub struct Session {
     pub(crate) rules: Rules,
     pub(crate) directory: Directory,
     pub(crate) peers: Peers,
+    pub(crate) asks: Asks,
     pub(crate) deadlines: CallDeadlines,
     pub(crate) nodes: Nodes,
     pub(crate) schedule: Schedule,
@@ -78,6 +80,7 @@ impl Session {
             rules: Rules::new(alloc),
             directory: Directory::new(alloc),
             peers: Peers::new(alloc),
+            asks: Asks::new(alloc),
             deadlines: CallDeadlines::new(alloc),
             nodes: Nodes::new(alloc),
             schedule: Schedule::new(alloc),

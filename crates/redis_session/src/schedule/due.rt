@@ -46,6 +46,14 @@ impl Schedule {
         }
     }
 
+    /// How many parts a call has, if it is kept.
+    pub(crate) fn part_count(&self, call: u64) -> usize {
+        match self.call(call) {
+            Some(record) => record.part_count,
+            None => 0,
+        }
+    }
+
     /// Notes that the time of a call is over.
     pub(crate) fn note_late(&mut self, call: u64) {
         self.drop_deadline(call);

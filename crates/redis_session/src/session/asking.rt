@@ -39,7 +39,7 @@ impl Session {
     ghost use Rattle.redis_session.specs.Directory.{AreNumbersOf};
     ghost use Rattle.redis_session.specs.Leads.{AddsCall, AsksLogin, BeginsLink, ChangesPeer, Leads, Serves};
     ghost use Rattle.redis_session.specs.Peers.{IsReadyTo};
-    ghost use Rattle.redis_session.specs.Targets.{is_serving};
+    ghost use Rattle.redis_session.specs.Targets.{IsFor};
     ghost use Rattle.redis_session.specs.Refusals.{IsCallRefused};
     ghost use Rattle.redis_session.specs.Rules.{rule_in};
     ghost use Rattle.redis_session.specs.SessionStates.{names};
@@ -316,7 +316,7 @@ impl Session {
         node: usize,
         link: usize,
     ) -> Result<bool, AllocError>
-        requires { is_serving target ≡ true → Serves self.old seat.call seat.part node }
+        requires { IsFor target self.old seat.call seat.part node }
         ensures { Leads self.old self.new }
     {
         if !self.is_ready_to(node, link) {
@@ -326,7 +326,7 @@ impl Session {
             return Ok(false);
         };
         match target {
-            Target::Asking(_) => self.machine.ask_asking(link, seat.call, seat.part),
+            Target::Asking => self.machine.ask_asking(link, seat.call, seat.part),
             Target::Serving => self.machine.ask(link, seat.call, seat.part),
         }
     }
@@ -393,11 +393,11 @@ impl Session {
 
     /// The node at which a part is asked.
     fn node_for(&mut self, seat: Seat, target: Target) -> Option<usize>
-        ensures serves { is_serving target ≡ true → IfSome result (Serves self.old seat.call seat.part) }
+        ensures node { IfSome result (IsFor target self.old seat.call seat.part) }
         ensures state { self.new ≡ self.old }
     {
         match target {
-            Target::Asking(node) => Some(node),
+            Target::Asking => self.asks.node(seat),
             Target::Serving => self.serving_node(seat),
         }
     }

@@ -27,7 +27,7 @@ impl Session {
     ghost use Rattle.session_core.specs.State.{On, Happens, IsLink, part_at};
     ghost use Rattle.session_machine.specs.declared.took.Took.TheVariants.{Kept};
     ghost use Rattle.session_core.specs.declared.part.Cause.TheVariants.{NoNode};
-    ghost use Rattle.redis_session.specs.Learned.{LearnsKept, LearnsRedirect, LearnsReplyOf, LearnsTold, NoPeers, Sets};
+    ghost use Rattle.redis_session.specs.Learned.{IsSentOn, Learns, LearnsKept, LearnsRedirect, LearnsReplyOf, LearnsTold, NoPeers, SendsKept, SendsRedirect, SendsTold, Sets};
     ghost use Rattle.redis_session.specs.Leads.{Does, Ends, Hails, IsConnected, Knows, Leads, LearnsThen, Notes, TakesAll, may_end};
 
     /// Takes the replies that came on a link, and notes whether it owes more. If no byte came now, its silence goes on.
@@ -220,7 +220,7 @@ impl Session {
         link: usize,
         seat: Seat,
     ) -> Result<Option<Target>, AllocError>
-        ensures { Sets (LearnsKept seat self.old.machine) self.old self.new }
+        ensures { Learns (LearnsKept seat self.old.machine) NoPeers (SendsKept seat self.old.machine) self.old self.new }
     {
         let Some(part) = self.machine.part(seat.call, seat.part) else {
             return Ok(None);
@@ -229,7 +229,7 @@ impl Session {
             return Ok(None);
         };
         let told = redirect_of(alloc, part, reply, self.host_of(link));
-        self.learn(told)
+        self.learn(seat, told)
     }
 
     /// Whether a part keeps an error of its node.
@@ -264,7 +264,8 @@ impl Session {
         seat: Seat,
         reply: &[u8],
     ) -> Result<(), AllocError>
-        ensures { LearnsThen (LearnsRedirect seat.call seat.part reply.now self.old.machine) NoPeers self.old self.new }
+        ensures { LearnsThen (LearnsRedirect seat.call seat.part reply.now self.old.machine) NoPeers
+            (SendsRedirect seat.call seat.part reply.now self.old.machine) self.old self.new }
     {
         self.nodes.note_reply(link);
         self.want_map_if(wants_map(reply));
@@ -335,28 +336,32 @@ impl Session {
         seat: Seat,
         refusal: &[u8],
     ) -> Result<Option<Target>, AllocError>
-        ensures { Sets (LearnsRedirect seat.call seat.part refusal.now self.old.machine) self.old self.new }
+        ensures { IsSentOn seat.call seat.part refusal.now self.old self.new }
     {
         let Some(part) = self.machine.part(seat.call, seat.part) else {
             return Ok(None);
         };
         let told = redirect_of(alloc, part, refusal, self.host_of(link));
-        self.learn(told)
+        self.learn(seat, told)
     }
 
     /// Learns where a part is sent on. Returns where it is asked next, if that is known.
     fn learn(
         &mut self,
+        seat: Seat,
         told: Result<Option<(u16, Redirect)>, AllocError>,
     ) -> Result<Option<Target>, AllocError>
-        ensures { Sets (LearnsTold told) self.old self.new }
+        ensures { Learns (LearnsTold told) NoPeers (SendsTold seat told) self.old self.new }
     {
         let Some((slot, redirect)) = told? else {
             return Ok(None);
         };
         match redirect {
             Redirect::Ask(address) => match self.number_of(&address)? {
-                Some(node) => Ok(Some(Target::Asking(node))),
+                Some(node) => {
+                    self.asks.add(seat, node)?;
+                    Ok(Some(Target::Asking))
+                }
                 None => Ok(None),
             },
             Redirect::Moved(address) => {
@@ -666,6 +671,8 @@ impl Session {
             if !self.machine.leave(alloc, call) {
                 return;
             }
+            let count = self.schedule.part_count(call);
+            self.asks.forget_call(call, count);
             self.schedule.note_left(place);
             self.trim();
         }

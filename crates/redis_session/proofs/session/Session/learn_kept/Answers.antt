@@ -15,4 +15,4 @@ returns c =
     let there = subst (λ (s : SessionState). part_at seat.call seat.part s.machine ≡ Some part) c.self.view_is c.in-Some.ensures.some in
     let refused : part.phase ≡ Refused c.deref.result.now = sym c.phase.ensures ∙ ap phase_of c.in-Refused.is ∙ ap Refused (sym c.deref.ensures.value) in
     kept_learned part s.machine seat c.deref.result.now s c.learn.new.self there refused
-    (told_learns part s.machine seat.call seat.part there s c.learn.new.self c.deref.result.now c.redirect_of-told.result c.redirect_of-told.ensures c.learn.ensures)
+    (told_learns part s.machine seat there s c.learn.new.self c.deref.result.now c.redirect_of-told.result c.redirect_of-told.ensures c.learn.ensures)

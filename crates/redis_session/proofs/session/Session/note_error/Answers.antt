@@ -1,12 +1,14 @@
 use Rattle.session_machine.specs.declared.took.Took.TheVariants.{Kept}
-use Rattle.redis_session.specs.Learned.{LearnsKept, ReadiesTook}
-use Rattle.redis_session.proofs.Leads.{sets_then}
+use Rattle.redis_session.specs.Learned.{LearnsKept, ReadiesTook, SendsKept}
+use Rattle.redis_session.proofs.Leads.{sent_then}
 use Rattle.redis_session.proofs.session.Session.note_error.Goals as goal
 
 pub returns-in-Ok : goal.returns-in-Ok
-returns-in-Ok c = sets_then (LearnsKept c.args.seat) (ReadiesTook c.args.link (Kept c.args.seat)) c.args.self.now c.want_map_if.new.self c.learn_kept-learned.new.self c.note_done.new.self
+returns-in-Ok c =
+    sent_then (LearnsKept c.args.seat) (ReadiesTook c.args.link (Kept c.args.seat)) (SendsKept c.args.seat) c.args.self.now c.want_map_if.new.self c.learn_kept-learned.new.self c.note_done.new.self
     c.want_map_if.ensures c.learn_kept-learned.ensures c.note_done.ensures
 
 pub returns-in-Err : goal.returns-in-Err
-returns-in-Err c = sets_then (LearnsKept c.args.seat) (ReadiesTook c.args.link (Kept c.args.seat)) c.args.self.now c.want_map_if.new.self c.learn_kept-learned.new.self c.note_done.new.self
+returns-in-Err c =
+    sent_then (LearnsKept c.args.seat) (ReadiesTook c.args.link (Kept c.args.seat)) (SendsKept c.args.seat) c.args.self.now c.want_map_if.new.self c.learn_kept-learned.new.self c.note_done.new.self
     c.want_map_if.ensures c.learn_kept-learned.ensures c.note_done.ensures
