@@ -105,6 +105,7 @@ impl Session {
     pub fn add_node(&mut self, address: &NodeAddress) -> Result<Option<usize>, AllocError>
         ensures known { IfOk result (λ node. IfSome node (λ number.
             slice_get self.new.directory.nodes number ≡ Some address.now)) }
+        ensures none { IfOk result (λ node. IfNone node (self.new ≡ self.old)) }
         ensures state { Knows self.old self.new }
         ensures err { OnErr result (self.new ≡ self.old) }
     {
@@ -431,6 +432,7 @@ impl Session {
     pub(crate) fn number_of(&mut self, address: &NodeAddress) -> Result<Option<usize>, AllocError>
         ensures known { IfOk result (λ node. IfSome node (λ number.
             slice_get self.new.directory.nodes number ≡ Some address.now)) }
+        ensures none { IfOk result (λ node. IfNone node (self.new ≡ self.old)) }
         ensures state { Knows self.old self.new }
         ensures err { OnErr result (self.new ≡ self.old) }
     {

@@ -10,3 +10,4 @@ pub mod Tables
 pub mod SessionBlocks
 pub mod SessionHandles
 pub mod Refused
+pub mod SessionAddresses

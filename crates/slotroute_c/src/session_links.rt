@@ -1,4 +1,4 @@
-ghost use Rattle.std.specs.Prelude.{◌≡◌, ◌≢◌, ◌<◌, ◌∷◌, [], IsTrue, length, take};
+ghost use Rattle.std.specs.Prelude.{◌≡◌, ◌≢◌, ◌<◌, ◌∷◌, [], None, IsTrue, length, slice_get, take};
 ghost use Rattle.session_core.specs.State.{IsLink, On};
 ghost use Rattle.session_core.specs.LinkEvents as events;
 ghost use Rattle.session_core.specs.declared.link.Standing.TheVariants as Standing;
@@ -26,10 +26,12 @@ pub extern "C" fn slotroute_session_connected(
     link: &mut usize,
 ) -> u32
     ensures done { result ≡ code Outcome.Done
-        → Opens link.new session.old.value session.new.value }
+        → Opens link.new node session.old.value session.new.value }
     ensures no_memory { result ≡ code Outcome.NoMemory
         → ConnectsNot session.old.value session.new.value }
     ensures not_there { result ≡ code Outcome.NotThere → session.new.value ≡ session.old.value }
+    ensures unknown { result ≡ code Outcome.NotThere
+        → slice_get session.old.value.directory.nodes node ≡ None }
     ensures unwritten { result ≢ code Outcome.Done → link.new ≡ link.old }
     ensures no_other { IsTrue (is_one_of result (Outcome.Done ∷ Outcome.NoMemory
         ∷ Outcome.NotThere ∷ [])) }

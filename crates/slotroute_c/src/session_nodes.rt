@@ -1,6 +1,9 @@
-ghost use Rattle.std.specs.Prelude.{◌≡◌, ◌≢◌, ◌∷◌, [], IsTrue};
+ghost use Rattle.std.specs.Prelude.{◌≡◌, ◌≢◌, ◌∷◌, [], None, Some, IsTrue, length, slice_get};
 ghost use Rattle.std.specs.Str.{IsUtf8};
+ghost use Rattle.redis_session.specs.Leads.{Knows};
+ghost use Rattle.slotroute_c.specs.Buffers.{IsWritten};
 ghost use Rattle.slotroute_c.specs.Outcomes.{code, is_one_of};
+ghost use Rattle.slotroute_c.specs.SessionAddresses.{IsAddressOf};
 
 use crate::buffers::put;
 use crate::outcomes::Outcome;
@@ -34,7 +37,10 @@ pub extern "C" fn slotroute_session_add_node(
     node: &mut usize,
 ) -> u32
     // Links and calls stay.
-    ensures unchanged { session.new.value ≡ session.old.value }
+    ensures knows { Knows session.old.value session.new.value }
+    ensures known { result ≡ code Outcome.Done
+        → slice_get session.new.value.directory.nodes node.new ≡ Some (record { host = host.now; port = port }) }
+    ensures unchanged { result ≢ code Outcome.Done → session.new.value ≡ session.old.value }
     ensures utf8 { ¬ (IsUtf8 host.now) → result ≡ code Outcome.NotText }
     ensures unwritten { result ≢ code Outcome.Done → node.new ≡ node.old }
     ensures no_other { IsTrue (is_one_of result (Outcome.Done ∷ Outcome.NoMemory ∷ Outcome.NotText
@@ -93,6 +99,10 @@ pub extern "C" fn slotroute_session_address(
     address: &mut SessionAddress,
 ) -> u32
     ensures unchanged { session.new.value ≡ session.old.value }
+    ensures told { result ≡ code Outcome.Done
+        → IsAddressOf node session.old.value.directory.nodes host.old host.new address.new }
+    ensures unknown { result ≡ code Outcome.NotThere
+        → slice_get session.old.value.directory.nodes node ≡ None }
     ensures unwritten { result ≢ code Outcome.Done → host.new ≡ host.old }
     ensures untold { result ≡ code Outcome.NotThere → address.new ≡ address.old }
     ensures no_other { IsTrue (is_one_of result (Outcome.Done ∷ Outcome.TooSmall ∷ Outcome.NotThere
@@ -106,6 +116,8 @@ pub extern "C" fn slotroute_session_address(
 
 /// Writes an address to `told`, and its host to `host` if it fits.
 fn tell(address: &NodeAddress, host: &mut [u8], told: &mut SessionAddress) -> Outcome
+    ensures told { told.new ≡ record { host_len = length address.now.host; port = address.now.port } }
+    ensures host { result ≡ Outcome.Done → IsWritten address.now.host host.old host.new }
     ensures unwritten { result ≢ Outcome.Done → (result ≡ Outcome.TooSmall)
         × (host.new ≡ host.old) }
 {
