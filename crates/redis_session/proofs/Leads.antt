@@ -20,7 +20,7 @@ use Rattle.session_machine.specs.declared.took.Took.{Took}
 use Rattle.session_machine.specs.declared.took.Took.TheVariants.{Nothing, Kept, Back, Login, Map, Asking, Broken}
 use Rattle.redis_session.specs.Asks.{AreFewer, Asks, asked_node}
 use Rattle.redis_session.specs.Directory.{Grows}
-use Rattle.redis_session.specs.Learned.{Learns, LearnsKept, LearnsOf, LearnsRedirect, LearnsReplyOf, LearnsTook, NoAsks, NoPeers, Readies, ReadiesOf, SendsKept, SendsOf, SendsRedirect, Sets}
+use Rattle.redis_session.specs.Learned.{Learns, LearnsKept, LearnsOf, LearnsRedirect, LearnsReply, LearnsTook, NoAsks, NoPeers, Readies, ReadiesOf, SendsKept, SendsOf, SendsRedirect, Sets, host_at}
 use Rattle.redis_session.specs.Leads.{Acts, AsksAfter, AsksLogin, BeginsLink, ChangesPeer, Does, Ends, Finishes, GivesReply, Hails, Hears, IsConnected, IsOpened, IsOwn, Knows, Leads, LearnsThen, Notes, Opens, Serves, TakesAll, TakesReplies, TakesReply, map_request}
 use Rattle.redis_session.specs.Peers.{IsReadyTo, Peers, peer_at}
 use Rattle.redis_session.specs.SessionStates.{SessionState, is_reply_of, without_reply}
@@ -152,11 +152,11 @@ kept_reply : (reply other : List ℕ) (phase : Phase) → Keeps reply phase → 
 kept_reply reply other phase (inl answered) is = absurd (cc (answered, is))
 kept_reply reply other phase (inr refused) is = cc
 
-kept_learns : (seat : Seat) (reply : List ℕ) (s : State) (old new : Table) → IsKeptIn seat.call seat.part reply s → LearnsKept seat s old new → LearnsRedirect seat.call seat.part reply s old new
-kept_learns seat reply s old new kept learns =
+kept_learns : (host : List ℕ) (seat : Seat) (reply : List ℕ) (s : State) (old new : Table) → IsKeptIn seat.call seat.part reply s → LearnsKept host seat s old new → LearnsRedirect host seat.call seat.part reply s old new
+kept_learns host seat reply s old new kept learns =
     let same : learns.1 ≡ kept.0 = same_Some learns.1 kept.0 (sym learns.2 ∙ kept.1) in
     let phase : kept.0.phase ≡ Refused learns.0 = ap (λ (p : PartState). p.phase) (sym same) ∙ learns.3 in
-    subst (λ (r : List ℕ). LearnsRedirect seat.call seat.part r s old new) (kept_reply reply learns.0 kept.0.phase kept.2 phase) learns.4
+    subst (λ (r : List ℕ). LearnsRedirect host seat.call seat.part r s old new) (kept_reply reply learns.0 kept.0.phase kept.2 phase) learns.4
 
 -- ---- what is learned
 
@@ -224,18 +224,18 @@ pub no_peers : (P : Peers → Peers → Type 0) (a b : Peers) → NoPeers a b �
 no_peers P a b none = absurd none
 
 -- what was learned of a part is noted, and then the session goes on
-pub sent_then : (T : State → Table → Table → Type 0) (P : Peers → Peers → Type 0) (A : State → List Address → Asks → Asks → Type 0) (before old mid new : SessionState) → old ≡ before
-    → Learns (T old.machine) NoPeers (A old.machine) old mid → Leads mid new → LearnsThen (T before.machine) P (A before.machine) before new
-sent_then T P A before old mid new same learns leads = subst (λ (s : SessionState). LearnsThen (T s.machine) P (A s.machine) s new) same
-    (learns_then (T old.machine) P (A old.machine) old mid new
-    (learns_as (T old.machine) (T old.machine) NoPeers P (A old.machine) (A old.machine) old mid (λ a b t. t) (no_peers P) (λ n a b s. s) learns) leads)
+pub sent_then : (T : SessionState → Table → Table → Type 0) (P : Peers → Peers → Type 0) (A : SessionState → List Address → Asks → Asks → Type 0) (before old mid new : SessionState) → old ≡ before
+    → Learns (T old) NoPeers (A old) old mid → Leads mid new → LearnsThen (T before) P (A before) before new
+sent_then T P A before old mid new same learns leads = subst (λ (s : SessionState). LearnsThen (T s) P (A s) s new) same
+    (learns_then (T old) P (A old) old mid new
+    (learns_as (T old) (T old) NoPeers P (A old) (A old) old mid (λ a b t. t) (no_peers P) (λ n a b s. s) learns) leads)
 
 -- the last refusal of a part, which it keeps, sends it on
-kept_sends : (seat : Seat) (reply : List ℕ) (s : State) (nodes : List Address) (old new : Asks) → IsKeptIn seat.call seat.part reply s → SendsKept seat s nodes old new → SendsRedirect seat.call seat.part reply s nodes old new
-kept_sends seat reply s nodes old new kept sends =
+kept_sends : (host : List ℕ) (seat : Seat) (reply : List ℕ) (s : State) (nodes : List Address) (old new : Asks) → IsKeptIn seat.call seat.part reply s → SendsKept host seat s nodes old new → SendsRedirect host seat.call seat.part reply s nodes old new
+kept_sends host seat reply s nodes old new kept sends =
     let same : sends.1 ≡ kept.0 = same_Some sends.1 kept.0 (sym sends.2 ∙ kept.1) in
     let phase : kept.0.phase ≡ Refused sends.0 = ap (λ (p : PartState). p.phase) (sym same) ∙ sends.3 in
-    subst (λ (r : List ℕ). SendsRedirect seat.call seat.part r s nodes old new) (kept_reply reply sends.0 kept.0.phase kept.2 phase) sends.4
+    subst (λ (r : List ℕ). SendsRedirect host seat.call seat.part r s nodes old new) (kept_reply reply sends.0 kept.0.phase kept.2 phase) sends.4
 
 module _ (number : ℕ) (old : SessionState) (machine : State) (new : SessionState) where
   -- what was taken, and what was noted of it
@@ -247,7 +247,7 @@ module _ (number : ℕ) (old : SessionState) (machine : State) (new : SessionSta
       mid = record old { machine = machine }
 
       taken_by : (ticket : Ticket) (reply : List ℕ) → Happens old.machine (On number (link.Take ticket reply)) machine
-          → LearnsThen (LearnsOf machine ticket reply) (ReadiesOf number ticket reply) (SendsOf machine ticket reply) mid new → TakesReply number old new
+          → LearnsThen (LearnsOf mid number ticket reply) (ReadiesOf number ticket reply) (SendsOf mid number ticket reply) mid new → TakesReply number old new
       taken_by ticket reply happens notes = record {
         ticket = ticket;
         reply = reply;
@@ -263,23 +263,23 @@ module _ (number : ℕ) (old : SessionState) (machine : State) (new : SessionSta
       by Nothing is some whole notes = absurd (some refl)
       by (Broken cause) is some whole notes = absurd (whole cause refl)
       by (Kept seat) is some whole notes = let part = ticket.Part seat.call seat.part in taken_by part is.0 is.1
-          (then_as (LearnsKept seat machine) (LearnsOf machine part is.0) (ReadiesOf number part is.0) (SendsKept seat machine) (SendsOf machine part is.0) mid new
-          (λ a b. kept_learns seat is.0 machine a b is.2) (λ nodes a b. kept_sends seat is.0 machine nodes a b is.2) notes)
+          (then_as (LearnsKept (host_at number mid) seat machine) (LearnsOf mid number part is.0) (ReadiesOf number part is.0) (SendsKept (host_at number mid) seat machine) (SendsOf mid number part is.0) mid new
+          (λ a b. kept_learns (host_at number mid) seat is.0 machine a b is.2) (λ nodes a b. kept_sends (host_at number mid) seat is.0 machine nodes a b is.2) notes)
       by (Back seat reply) is some whole notes = taken_by (ticket.Part seat.call seat.part) reply.items is.0 notes
       by (Login reply) is some whole notes = taken_by ticket.Login reply.items is notes
       by (Map count reply) is some whole notes = taken_by (ticket.Map count) reply.items is notes
       by (Asking reply) is some whole notes = taken_by ticket.Asking reply.items is notes
 
 pub map_noted : (number : ℕ) (took : Took) (count : ℕ) (reply : Vec ℕ Global) (bytes : List ℕ) (old new : SessionState) → took ≡ Map count reply → bytes ≡ reply.items
-    → Sets (LearnsReplyOf count bytes) old new → Notes number took old new
+    → Sets (LearnsReply count (host_at number old) bytes) old new → Notes number took old new
 map_noted number took count reply bytes old new is same sets = subst (λ (t : Took). Notes number t old new) (sym is)
-    (subst (λ (b : List ℕ). LearnsThen (LearnsReplyOf count b) NoPeers NoAsks old new) same
-    (learns_then (LearnsReplyOf count bytes) NoPeers NoAsks old new new sets (leads_nowhere new new refl)))
+    (subst (λ (b : List ℕ). LearnsThen (LearnsReply count (host_at number old) b) NoPeers NoAsks old new) same
+    (learns_then (LearnsReply count (host_at number old) bytes) NoPeers NoAsks old new new sets (leads_nowhere new new refl)))
 
 pub login_noted : (number : ℕ) (took : Took) (reply : Vec ℕ Global) (bytes : List ℕ) (old new : SessionState) → took ≡ Login reply → bytes ≡ reply.items
     → Hails number bytes old new → Notes number took old new
 login_noted number took reply bytes old new is same hails = subst (λ (t : Took). Notes number t old new) (sym is)
-    (subst (λ (b : List ℕ). LearnsThen (LearnsTook old.machine (Login reply)) (Readies number b) NoAsks old new) same (record {
+    (subst (λ (b : List ℕ). LearnsThen (LearnsTook old number (Login reply)) (Readies number b) NoAsks old new) same (record {
       wiser = new;
       learns = record {
         nodes = subst (λ (s : SessionState). Grows old.directory.nodes s.directory.nodes) (sym hails.others) (grows_not old.directory.nodes);

@@ -13,7 +13,7 @@ use Rattle.cluster_slots.specs.Address.{Address}
 use Rattle.redis_routing.specs.declared.info.Redirect.TheVariants.{Ask, Moved}
 use Rattle.redis_session.specs.Asks.{Asks, SendsPart}
 use Rattle.redis_session.specs.Directory.{Directory, Grows}
-use Rattle.redis_session.specs.Learned.{IsRedirectIn, Learns, LearnsKept, LearnsRedirect, LearnsReplyOf, LearnsTold, NoPeers, SendsKept, SendsOn, SendsRedirect, SendsTold, Sets}
+use Rattle.redis_session.specs.Learned.{IsRedirectIn, Learns, LearnsKept, LearnsRedirect, LearnsReply, LearnsTold, NoPeers, SendsKept, SendsOn, SendsRedirect, SendsTold, Sets}
 use Rattle.redis_session.specs.Leads.{Knows}
 use Rattle.redis_session.specs.Table.{LearnsMoved, Table}
 use Rattle.redis_session.specs.SessionStates.{SessionState}
@@ -35,35 +35,35 @@ error_text n m reply rest text begins is ends text_is =
 
 pub redirect_read : {E : Type 0} (answering text reply : List ℕ) (result : Result (Option (ℕ × Redirect)) E) → reply ≡ codes "-" ++ (text ++ crlf)
     → IfOk result (λ told. MatchOption told (IsNoRedirect answering text) (λ r. IsRedirectText answering text r.0 r.1))
-    → IfOk result (λ told. IfSome told (λ to. IsRedirectIn reply to.0 to.1))
-redirect_read answering text reply (Ok (Some told)) is read = (answering, text, is, read)
+    → IfOk result (λ told. IfSome told (λ to. IsRedirectIn answering reply to.0 to.1))
+redirect_read answering text reply (Ok (Some told)) is read = (text, is, read)
 redirect_read answering text reply (Ok None) is read = tt
 redirect_read answering text reply (Err y) is read = tt
 
 -- ---- what a session learns of them
 
-module _ (it : PartState) (s : State) (seat : Seat) (there : part_at seat.call seat.part s ≡ Some it) (old new : SessionState) where
+module _ (host : List ℕ) (it : PartState) (s : State) (seat : Seat) (there : part_at seat.call seat.part s ≡ Some it) (old new : SessionState) where
   -- a refusal of the part
-  pub told_learns : {E : Type 0} (reply : List ℕ) (told : Result (Option (ℕ × Redirect)) E) → IfOk told (λ t. IfSome t (λ to. SendsOn it reply to.0 to.1))
-      → Learns (LearnsTold told) NoPeers (SendsTold seat told) old new → Learns (LearnsRedirect seat.call seat.part reply s) NoPeers (SendsRedirect seat.call seat.part reply s) old new
+  pub told_learns : {E : Type 0} (reply : List ℕ) (told : Result (Option (ℕ × Redirect)) E) → IfOk told (λ t. IfSome t (λ to. SendsOn host it reply to.0 to.1))
+      → Learns (LearnsTold told) NoPeers (SendsTold seat told) old new → Learns (LearnsRedirect host seat.call seat.part reply s) NoPeers (SendsRedirect host seat.call seat.part reply s) old new
   told_learns {E = E} reply told sends =
-      learns_as (LearnsTold told) (LearnsRedirect seat.call seat.part reply s) NoPeers NoPeers (SendsTold seat told) (SendsRedirect seat.call seat.part reply s) old new
+      learns_as (LearnsTold told) (LearnsRedirect host seat.call seat.part reply s) NoPeers NoPeers (SendsTold seat told) (SendsRedirect host seat.call seat.part reply s) old new
       as_redirect (λ a b none. none) as_sent
     where
-      is_sent : (slot : ℕ) (redirect : Redirect) → told ≡ Ok (Some (slot, redirect)) → SendsOn it reply slot redirect
-      is_sent slot redirect is = subst (λ (t : Result (Option (ℕ × Redirect)) E). IfOk t (λ o. IfSome o (λ to. SendsOn it reply to.0 to.1))) is sends
+      is_sent : (slot : ℕ) (redirect : Redirect) → told ≡ Ok (Some (slot, redirect)) → SendsOn host it reply slot redirect
+      is_sent slot redirect is = subst (λ (t : Result (Option (ℕ × Redirect)) E). IfOk t (λ o. IfSome o (λ to. SendsOn host it reply to.0 to.1))) is sends
 
-      as_redirect : (a b : Table) → LearnsTold told a b → LearnsRedirect seat.call seat.part reply s a b
+      as_redirect : (a b : Table) → LearnsTold told a b → LearnsRedirect host seat.call seat.part reply s a b
       as_redirect a b l = record { it = it; part_is = there; slot = l.0; node = l.1; sent = is_sent l.0 (Moved l.1) l.2; learns = l.3 }
 
-      as_sent : (nodes : List Address) (a b : Asks) → SendsTold seat told nodes a b → SendsRedirect seat.call seat.part reply s nodes a b
+      as_sent : (nodes : List Address) (a b : Asks) → SendsTold seat told nodes a b → SendsRedirect host seat.call seat.part reply s nodes a b
       as_sent nodes a b l =
           record { it = it; part_is = there; slot = l.0; address = l.1; sent = is_sent l.0 (Ask l.1) l.2; node = l.3; node_is = l.4; sends = l.5 }
 
-pub kept_learned : (it : PartState) (s : State) (seat : Seat) (reply : List ℕ) (old new : SessionState) → part_at seat.call seat.part s ≡ Some it → it.phase ≡ Refused reply
-    → Learns (LearnsRedirect seat.call seat.part reply s) NoPeers (SendsRedirect seat.call seat.part reply s) old new → Learns (LearnsKept seat s) NoPeers (SendsKept seat s) old new
-kept_learned it s seat reply old new there refused =
-    learns_as (LearnsRedirect seat.call seat.part reply s) (LearnsKept seat s) NoPeers NoPeers (SendsRedirect seat.call seat.part reply s) (SendsKept seat s) old new
+pub kept_learned : (host : List ℕ) (it : PartState) (s : State) (seat : Seat) (reply : List ℕ) (old new : SessionState) → part_at seat.call seat.part s ≡ Some it → it.phase ≡ Refused reply
+    → Learns (LearnsRedirect host seat.call seat.part reply s) NoPeers (SendsRedirect host seat.call seat.part reply s) old new → Learns (LearnsKept host seat s) NoPeers (SendsKept host seat s) old new
+kept_learned host it s seat reply old new there refused =
+    learns_as (LearnsRedirect host seat.call seat.part reply s) (LearnsKept host seat s) NoPeers NoPeers (SendsRedirect host seat.call seat.part reply s) (SendsKept host seat s) old new
     (λ a b learns. (reply, it, there, refused, learns)) (λ a b none. none) (λ nodes a b sends. (reply, it, there, refused, sends))
 
 -- a node became known, and then the table learned of it
@@ -92,18 +92,24 @@ told_asked told seat slot node address old mid new is knows node_is sends others
       nodes = subst (λ (s : SessionState). Grows old.directory.nodes s.directory.nodes) (sym others) knows.nodes;
       table = inr (ap (λ (s : SessionState). s.directory.table) others ∙ ap (λ (s : SessionState). s.directory.table) knows.others);
       peers = inr (ap (λ (s : SessionState). s.peers) then);
-      asks = inl (slot, address, is, node, subst (λ (s : SessionState). slice_get s.directory.nodes node ≡ Some address) (sym others) node_is,
-          subst (λ (a : Asks). SendsPart seat.call seat.part node a new.asks) (ap (λ (s : SessionState). s.asks) knows.others) sends);
+      asks = inl (
+        slot,
+        address,
+        is,
+        node,
+        subst (λ (s : SessionState). slice_get s.directory.nodes node ≡ Some address) (sym others) node_is,
+        subst (λ (a : Asks). SendsPart seat.call seat.part node a new.asks) (ap (λ (s : SessionState). s.asks) knows.others) sends,
+      );
       others = subst (λ (s : SessionState). s ≡ record old { directory = s.directory; peers = s.peers; asks = s.asks }) (sym then) refl;
     }
 
 -- ---- and of maps
 
-pub filled_sets : {E : Type 0} (asked : ℕ) (reply : List ℕ) (result : Result Bool E) (before old : SessionState) (directory : Directory) → before ≡ old
-    → IfOk result (λ fills. fills ≡ true → LearnsReplyOf asked reply before.directory.table directory.table) → IfOk result (λ fills. fills ≡ false → directory ≡ before.directory)
-    → OnErr result (directory ≡ before.directory) → directory ≡ record before.directory { table = directory.table } → Sets (LearnsReplyOf asked reply) old (record before { directory = directory })
-filled_sets {E = E} asked reply result before old directory same learns stays fails others =
-    subst (λ (s : SessionState). Sets (LearnsReplyOf asked reply) s (record before { directory = directory })) same
+pub filled_sets : {E : Type 0} (asked : ℕ) (host reply : List ℕ) (result : Result Bool E) (before old : SessionState) (directory : Directory) → before ≡ old
+    → IfOk result (λ fills. fills ≡ true → LearnsReply asked host reply before.directory.table directory.table) → IfOk result (λ fills. fills ≡ false → directory ≡ before.directory)
+    → OnErr result (directory ≡ before.directory) → directory ≡ record before.directory { table = directory.table } → Sets (LearnsReply asked host reply) old (record before { directory = directory })
+filled_sets {E = E} asked host reply result before old directory same learns stays fails others =
+    subst (λ (s : SessionState). Sets (LearnsReply asked host reply) s (record before { directory = directory })) same
     (record {
       nodes = subst (λ (d : Directory). Grows before.directory.nodes d.nodes) (sym others) (grows_not before.directory.nodes);
       table = by result learns stays fails;
@@ -112,8 +118,8 @@ filled_sets {E = E} asked reply result before old directory same learns stays fa
       others = refl;
     })
   where
-    by : (r : Result Bool E) → IfOk r (λ fills. fills ≡ true → LearnsReplyOf asked reply before.directory.table directory.table) → IfOk r (λ fills. fills ≡ false → directory ≡ before.directory)
-        → OnErr r (directory ≡ before.directory) → LearnsReplyOf asked reply before.directory.table directory.table ⊎ (directory.table ≡ before.directory.table)
+    by : (r : Result Bool E) → IfOk r (λ fills. fills ≡ true → LearnsReply asked host reply before.directory.table directory.table) → IfOk r (λ fills. fills ≡ false → directory ≡ before.directory)
+        → OnErr r (directory ≡ before.directory) → LearnsReply asked host reply before.directory.table directory.table ⊎ (directory.table ≡ before.directory.table)
     by (Ok true) learnt stay fail = inl (learnt refl)
     by (Ok false) learnt stay fail = inr (ap (λ (d : Directory). d.table) (stay refl))
     by (Err y) learnt stay fail = inr (ap (λ (d : Directory). d.table) fail)

@@ -1,6 +1,6 @@
 -- Links, their nodes, and what these serve.
 use Rattle.std.proofs.Common.{◌≡◌, ◌==◌, ◌++◌, ◌∷◌, [], inl, inr, ℕ, List, Bool, true, false, Option, None, Some, length, arith, refl, sym, subst, ap, ◌∙◌}
-use Rattle.std.specs.Prelude.{IfSome, is_some}
+use Rattle.std.specs.Prelude.{IfSome, is_some, slice_get}
 use Rattle.std.proofs.lemmas.Bool.Decides.{nat_tests}
 use Rattle.cluster_slots.specs.Address.{Address}
 use Rattle.session_core.specs.Part.{PartState}
@@ -9,6 +9,7 @@ use Rattle.session_core.specs.declared.part.PartOrder.{PartOrder}
 use Rattle.session_core.specs.declared.part.PartOrder.TheVariants.{OfSlot, Whole, Free}
 use Rattle.redis_session.specs.Begins.{has_slot}
 use Rattle.redis_session.specs.Directory.{Directory, IsNodeOf}
+use Rattle.redis_session.specs.Learned.{host_at, host_in, host_of}
 use Rattle.redis_session.specs.Leads.{AsksLogin, BeginsLink, ChangesPeer, Hails, IsNodeFor, Knows, Serves, SetsPeerOf}
 use Rattle.redis_session.specs.Peers.{Peers, SetsPeer, made_ready, peer_at}
 use Rattle.redis_session.specs.Rules.{is_several, node_in, rule_in}
@@ -83,3 +84,6 @@ changes_by number peer before old new peers same sets is = subst (λ (s : Sessio
 
 pub leaves_by : (number : ℕ) (before mid : SessionState) (peers : Peers) → before ≡ mid → SetsPeer number None before.peers peers → SetsPeerOf number None mid (record before { peers = peers })
 leaves_by number before mid peers same sets = subst (λ (s : SessionState). SetsPeerOf number None s (record before { peers = peers })) same (record { peers = sets; others = refl })
+
+pub host_is : (link node : ℕ) (s : SessionState) → (peer : Peer) × (peer_at link s.peers ≡ Some peer) × (peer.node ≡ node) → host_in (slice_get s.directory.nodes node) ≡ host_at link s
+host_is link node s at = ap (λ n. host_in (slice_get s.directory.nodes n)) (sym at.2) ∙ ap (λ p. host_of p s.directory.nodes) (sym at.1)

@@ -133,8 +133,8 @@ pub record TakesReply (number : ℕ) (old new : SessionState) : Type 0 where
   pub mid : SessionState
   pub taken : Does (On number (link.Take ticket reply)) old mid
   pub wiser : SessionState
-  pub learns : Learns (LearnsOf mid.machine ticket reply) (ReadiesOf number ticket reply)
-      (SendsOf mid.machine ticket reply) mid wiser
+  pub learns : Learns (LearnsOf mid number ticket reply) (ReadiesOf number ticket reply)
+      (SendsOf mid number ticket reply) mid wiser
   pub leads : Leads wiser new
 
 -- so many, one after the other
@@ -152,7 +152,7 @@ pub record LearnsThen (HowTable : Table → Table → Type 0) (HowPeers : Peers 
 -- What was taken on this link is noted: the session learns of it, and goes on by itself.
 abbrev pub Notes : ℕ → Took → SessionState → SessionState → Type 0
 Notes number took old new =
-    LearnsThen (LearnsTook old.machine took) (ReadiesTook number took) (SendsTook old.machine took) old new
+    LearnsThen (LearnsTook old number took) (ReadiesTook number took) (SendsTook old number took) old new
 
 -- Replies are taken on this link, and then the session goes on by itself.
 pub record TakesAll (number : ℕ) (old new : SessionState) : Type 0 where

@@ -1,5 +1,5 @@
 -- What a session learns of the nodes that serve slots, and of whom.
-use Rattle.std.specs.Prelude.{◌≡◌, ◌⊎◌, ◌++◌, ℕ, true, false, List, Option, Some, Result, Ok, codes, slice_get}
+use Rattle.std.specs.Prelude.{◌≡◌, ◌⊎◌, ◌++◌, ℕ, true, false, List, [], Option, None, Some, Result, Ok, codes, slice_get}
 use Rattle.resp.specs.Forms.{crlf}
 use Rattle.resp_core.specs.Reply.{Reply}
 use Rattle.cluster_slots.specs.Address.{Address}
@@ -24,56 +24,64 @@ use Rattle.redis_session.specs.SplitReplies.{is_error}
 use Rattle.redis_session.specs.declared.peers.Peer.{Peer}
 use Rattle.redis_session.specs.Table.{IsUsable, LearnsMap, LearnsMoved, Table}
 
+abbrev pub host_in : Option Address → List ℕ
+host_in (Some address) = address.host
+host_in None = []
+
+abbrev pub host_of : Option Peer → List Address → List ℕ
+host_of (Some peer) nodes = host_in (slice_get nodes peer.node)
+host_of None nodes = []
+
+-- the host of the node at the other end of a link
+abbrev pub host_at : ℕ → SessionState → List ℕ
+host_at link s = host_of (peer_at link s.peers) s.directory.nodes
+
 -- The error sends a part of this slot on: `-MOVED 3300 n3:1`. The host may be left out, as in `-MOVED 3300 :1`. Then it is
--- `answering`, that of some node.
-abbrev pub IsRedirectIn : List ℕ → ℕ → Redirect → Type 0
-IsRedirectIn reply slot redirect = (answering text : List ℕ)
-    × (reply ≡ codes "-" ++ (text ++ crlf)) × IsRedirectText answering text slot redirect
+-- that of the node that answered.
+abbrev pub IsRedirectIn : (answering reply : List ℕ) → ℕ → Redirect → Type 0
+IsRedirectIn answering reply slot redirect =
+    (text : List ℕ) × (reply ≡ codes "-" ++ (text ++ crlf)) × IsRedirectText answering text slot redirect
 
 -- The part is of this slot, and its node refused to run it by a reply that sends it on.
-pub record SendsOn (it : PartState) (reply : List ℕ) (slot : ℕ) (redirect : Redirect) : Type 0 where
+pub record SendsOn (answering : List ℕ) (it : PartState) (reply : List ℕ) (slot : ℕ) (redirect : Redirect) : Type 0 where
   pub slot_is : it.order ≡ OfSlot slot
   pub refused : is_refusal it reply ≡ true
-  pub told : IsRedirectIn reply slot redirect
+  pub told : IsRedirectIn answering reply slot redirect
 
 -- A part was refused by this reply, which names the node that its slot has for good. The table learns it, for no other
 -- slot.
-pub record LearnsRedirect (call part : ℕ) (reply : List ℕ) (s : State) (old new : Table) : Type 0 where
+pub record LearnsRedirect (answering : List ℕ) (call part : ℕ) (reply : List ℕ) (s : State) (old new : Table) : Type 0 where
   pub it : PartState
   pub part_is : part_at call part s ≡ Some it
   pub slot : ℕ
   pub node : Address
-  pub sent : SendsOn it reply slot (Moved node)
+  pub sent : SendsOn answering it reply slot (Moved node)
   pub learns : LearnsMoved slot node old new
 
 -- A part was refused by this reply, which sends it to a node once. The session notes that, of no other part.
-pub record SendsRedirect (call part : ℕ) (reply : List ℕ) (s : State) (nodes : List Address) (old new : Asks) : Type 0 where
+pub record SendsRedirect (answering : List ℕ) (call part : ℕ) (reply : List ℕ) (s : State) (nodes : List Address) (old new : Asks) : Type 0 where
   pub it : PartState
   pub part_is : part_at call part s ≡ Some it
   pub slot : ℕ
   pub address : Address
-  pub sent : SendsOn it reply slot (Ask address)
+  pub sent : SendsOn answering it reply slot (Ask address)
   pub node : ℕ
   pub node_is : slice_get nodes node ≡ Some address
   pub sends : SendsPart call part node old new
 
 -- The reply has a usable map, which was asked for after so many `MOVED` were learned. The table learns it. A host
--- that the reply leaves out is `host`.
-pub record LearnsReply (asked : ℕ) (host reply : List ℕ) (old new : Table) : Type 0 where
+-- that the reply leaves out is that of the node that answered.
+pub record LearnsReply (asked : ℕ) (answering reply : List ℕ) (old new : Table) : Type 0 where
   pub said : Reply
   pub said_is : IsReply said reply
-  pub usable : IsUsable (entries_in host said)
-  pub learns : LearnsMap asked (entries_in host said) old new
+  pub usable : IsUsable (entries_in answering said)
+  pub learns : LearnsMap asked (entries_in answering said) old new
 
--- of some host
-abbrev pub LearnsReplyOf : (asked : ℕ) → List ℕ → Table → Table → Type 0
-LearnsReplyOf asked reply old new = (host : List ℕ) × LearnsReply asked host reply old new
-
--- what a table learns of the reply for this ticket
-abbrev pub LearnsOf : State → Ticket → List ℕ → Table → Table → Type 0
-LearnsOf s (Map asked) reply old new = LearnsReplyOf asked reply old new
-LearnsOf s (Part call part) reply old new = LearnsRedirect call part reply s old new
-LearnsOf s other reply old new = ⊥
+-- what a table learns of the reply for this ticket, which came on this link
+abbrev pub LearnsOf : SessionState → ℕ → Ticket → List ℕ → Table → Table → Type 0
+LearnsOf s link (Map asked) reply old new = LearnsReply asked (host_at link s) reply old new
+LearnsOf s link (Part call part) reply old new = LearnsRedirect (host_at link s) call part reply s.machine old new
+LearnsOf s link other reply old new = ⊥
 
 -- Parts may be asked on the link now, since the reply to its login is no error.
 pub record Readies (link : ℕ) (reply : List ℕ) (old new : Peers) : Type 0 where
@@ -87,10 +95,10 @@ abbrev pub ReadiesOf : ℕ → Ticket → List ℕ → Peers → Peers → Type 
 ReadiesOf link Login reply old new = Readies link reply old new
 ReadiesOf link other reply old new = ⊥
 
--- where a part is sent with the reply for this ticket
-abbrev pub SendsOf : State → Ticket → List ℕ → List Address → Asks → Asks → Type 0
-SendsOf s (Part call part) reply nodes old new = SendsRedirect call part reply s nodes old new
-SendsOf s other reply nodes old new = ⊥
+-- where a part is sent with the reply for this ticket, which came on this link
+abbrev pub SendsOf : SessionState → ℕ → Ticket → List ℕ → List Address → Asks → Asks → Type 0
+SendsOf s link (Part call part) reply nodes old new = SendsRedirect (host_at link s) call part reply s.machine nodes old new
+SendsOf s link other reply nodes old new = ⊥
 
 -- The session may come to know nodes. The table learns this, the peers change so, and parts are sent there, or they stay.
 -- Nothing else changes.
@@ -115,9 +123,9 @@ abbrev pub Sets : (Table → Table → Type 0) → SessionState → SessionState
 Sets How old new = Learns How NoPeers NoAsks old new
 
 -- a part was refused by this reply, which the session learns
-abbrev pub IsSentOn : (call part : ℕ) → List ℕ → SessionState → SessionState → Type 0
-IsSentOn call part reply old new =
-    Learns (LearnsRedirect call part reply old.machine) NoPeers (SendsRedirect call part reply old.machine) old new
+abbrev pub IsSentOn : (link call part : ℕ) → List ℕ → SessionState → SessionState → Type 0
+IsSentOn link call part reply old new = Learns (LearnsRedirect (host_at link old) call part reply old.machine) NoPeers
+    (SendsRedirect (host_at link old) call part reply old.machine) old new
 
 -- where a part is sent on, as the table learns it
 abbrev pub LearnsTold : {E : Type 0} → Result (Option (ℕ × Redirect)) E → Table → Table → Type 0
@@ -130,29 +138,31 @@ SendsTold seat told nodes old new = (slot : ℕ) × (address : Address) × (told
     × (node : ℕ) × (slice_get nodes node ≡ Some address) × SendsPart seat.call seat.part node old new
 
 -- the part was refused by a reply that it keeps, which the table learns
-abbrev pub LearnsKept : Seat → State → Table → Table → Type 0
-LearnsKept seat s old new = (reply : List ℕ) × (p : PartState) × (part_at seat.call seat.part s ≡ Some p)
-    × (p.phase ≡ Refused reply) × LearnsRedirect seat.call seat.part reply s old new
+abbrev pub LearnsKept : (answering : List ℕ) → Seat → State → Table → Table → Type 0
+LearnsKept answering seat s old new = (reply : List ℕ) × (p : PartState) × (part_at seat.call seat.part s ≡ Some p)
+    × (p.phase ≡ Refused reply) × LearnsRedirect answering seat.call seat.part reply s old new
 
 -- the part was refused by a reply that it keeps, which sends it to a node once
-abbrev pub SendsKept : Seat → State → List Address → Asks → Asks → Type 0
-SendsKept seat s nodes old new = (reply : List ℕ) × (p : PartState) × (part_at seat.call seat.part s ≡ Some p)
-    × (p.phase ≡ Refused reply) × SendsRedirect seat.call seat.part reply s nodes old new
+abbrev pub SendsKept : (answering : List ℕ) → Seat → State → List Address → Asks → Asks → Type 0
+SendsKept answering seat s nodes old new = (reply : List ℕ) × (p : PartState) × (part_at seat.call seat.part s ≡ Some p)
+    × (p.phase ≡ Refused reply) × SendsRedirect answering seat.call seat.part reply s nodes old new
 
--- what the table learns of what was taken
-abbrev pub LearnsTook : State → Took → Table → Table → Type 0
-LearnsTook s (took.Kept seat) old new = LearnsKept seat s old new
-LearnsTook s (took.Back seat reply) old new = LearnsRedirect seat.call seat.part reply.items s old new
-LearnsTook s (took.Map asked reply) old new = LearnsReplyOf asked reply.items old new
-LearnsTook s other old new = ⊥
+-- what the table learns of what was taken on this link
+abbrev pub LearnsTook : SessionState → ℕ → Took → Table → Table → Type 0
+LearnsTook s link (took.Kept seat) old new = LearnsKept (host_at link s) seat s.machine old new
+LearnsTook s link (took.Back seat reply) old new =
+    LearnsRedirect (host_at link s) seat.call seat.part reply.items s.machine old new
+LearnsTook s link (took.Map asked reply) old new = LearnsReply asked (host_at link s) reply.items old new
+LearnsTook s link other old new = ⊥
 
 -- what becomes of the peers with what was taken on this link
 abbrev pub ReadiesTook : ℕ → Took → Peers → Peers → Type 0
 ReadiesTook link (took.Login reply) old new = Readies link reply.items old new
 ReadiesTook link other old new = ⊥
 
--- where parts are sent with what was taken
-abbrev pub SendsTook : State → Took → List Address → Asks → Asks → Type 0
-SendsTook s (took.Kept seat) nodes old new = SendsKept seat s nodes old new
-SendsTook s (took.Back seat reply) nodes old new = SendsRedirect seat.call seat.part reply.items s nodes old new
-SendsTook s other nodes old new = ⊥
+-- where parts are sent with what was taken on this link
+abbrev pub SendsTook : SessionState → ℕ → Took → List Address → Asks → Asks → Type 0
+SendsTook s link (took.Kept seat) nodes old new = SendsKept (host_at link s) seat s.machine nodes old new
+SendsTook s link (took.Back seat reply) nodes old new =
+    SendsRedirect (host_at link s) seat.call seat.part reply.items s.machine nodes old new
+SendsTook s link other nodes old new = ⊥

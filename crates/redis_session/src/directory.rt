@@ -5,7 +5,7 @@ ghost use Rattle.std.specs.Prelude.{◌≡◌, ◌≢◌, ◌++◌, ◌∷◌, [
 ghost use Rattle.cluster_map.specs.Targets.{addresses_behind};
 ghost use Rattle.redis_session.specs.Directory.{AreNumbersOf, IsNodeOf};
 ghost use Rattle.redis_session.specs.Inner.SlotNumbers.{SetsNumber};
-ghost use Rattle.redis_session.specs.Learned.{LearnsReplyOf};
+ghost use Rattle.redis_session.specs.Learned.{LearnsReply, host_in};
 ghost use Rattle.redis_session.specs.Table.{LearnsMoved, group_in};
 
 use crate::table::SlotTable;
@@ -210,19 +210,29 @@ impl Directory {
         asked: u64,
     ) -> Result<bool, AllocError>
         ensures learns { IfOk result (λ fills. fills ≡ true
-            → LearnsReplyOf asked reply.now self.old.table self.new.table) }
+            → LearnsReply asked (host_in (slice_get self.old.nodes node)) reply.now self.old.table self.new.table) }
         ensures stays { IfOk result (λ fills. fills ≡ false → self.new ≡ self.old) }
         ensures others { self.new ≡ record self.old { table = self.new.table } }
         ensures err { OnErr result (self.new ≡ self.old) }
     {
-        let Some(address) = self.addresses.get(node) else {
+        let Some(host) = host_in(&self.addresses, node) else {
             return Ok(false);
         };
-        if !self.table.fill(alloc, reply, address.host(), asked)? {
+        if !self.table.fill(alloc, reply, host, asked)? {
             return Ok(false);
         }
         self.by_slot.clear();
         Ok(true)
+    }
+}
+
+/// The host of a node, if the node is known.
+fn host_in(nodes: &[NodeAddress], node: usize) -> Option<&str>
+    ensures { IfSome result (λ host. host.now ≡ host_in (slice_get nodes.now node)) }
+{
+    match nodes.get(node) {
+        Some(address) => Some(address.host()),
+        None => None,
     }
 }
 

@@ -7,10 +7,10 @@ ghost use Rattle.redis_session.specs.Begins.{AreNewParts, CanBegin, IsErrandBy, 
 ghost use Rattle.redis_session.specs.declared.plan.CallParts.TheVariants as plans;
 
 use crate::nodes::NodeLink;
+use crate::peers::Peer;
 use crate::plan::{CallParts, CallPlan, SlotPart};
 use crate::refusal::CallRefusal;
 use crate::rules::ReplyRule;
-use crate::peers::Peer;
 use crate::schedule::{NewCall, Room, Target};
 use crate::session::Session;
 use redis_routing::NodeGroup;

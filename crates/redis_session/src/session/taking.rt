@@ -21,13 +21,15 @@ impl Session {
     ghost use Rattle.session_core.specs.Part.{PartState};
     ghost use Rattle.session_core.specs.declared.part.PartOrder.TheVariants.{OfSlot};
     ghost use Rattle.redis_session.specs.Begins.{has_slot};
+    ghost use Rattle.redis_session.specs.Peers.{peer_at};
+    ghost use Rattle.redis_session.specs.declared.peers.Peer.{Peer};
     ghost use Rattle.session_core.specs.declared.link.Standing.TheVariants.{Open};
     ghost use Rattle.session_core.specs.Channel.{Channel};
     ghost use Rattle.session_core.specs.LinkEvents as events;
     ghost use Rattle.session_core.specs.State.{On, Happens, IsLink, part_at};
     ghost use Rattle.session_machine.specs.declared.took.Took.TheVariants.{Kept};
     ghost use Rattle.session_core.specs.declared.part.Cause.TheVariants.{NoNode};
-    ghost use Rattle.redis_session.specs.Learned.{IsSentOn, Learns, LearnsKept, LearnsRedirect, LearnsReplyOf, LearnsTold, NoPeers, SendsKept, SendsRedirect, SendsTold, Sets};
+    ghost use Rattle.redis_session.specs.Learned.{IsSentOn, Learns, LearnsKept, LearnsRedirect, LearnsReply, LearnsTold, NoPeers, SendsKept, SendsRedirect, SendsTold, Sets, host_at};
     ghost use Rattle.redis_session.specs.Leads.{Does, Ends, Hails, IsConnected, Knows, Leads, LearnsThen, Notes, TakesAll, may_end};
 
     /// Takes the replies that came on a link, and notes whether it owes more. If no byte came now, its silence goes on.
@@ -104,8 +106,14 @@ impl Session {
     }
 
     /// The node of a link.
-    pub(crate) fn node_of_link(&self, link: usize) -> Option<usize> {
-        Some(self.peers.get(link)?.node)
+    pub(crate) fn node_of_link(&self, link: usize) -> Option<usize>
+        ensures { IfSome result (λ node. (peer : Peer)
+            × (peer_at link self.entry.now.peers ≡ Some peer) × (peer.node ≡ node)) }
+    {
+        match self.peers.get(link) {
+            Some(peer) => Some(peer.node),
+            None => None,
+        }
     }
 
     /// The node to which a link is opening, whose login is not answered.
@@ -126,7 +134,7 @@ impl Session {
         count: u64,
         reply: &[u8],
     ) -> Result<(), AllocError>
-        ensures { Sets (LearnsReplyOf count reply.now) self.old self.new }
+        ensures { Sets (LearnsReply count (host_at link self.old) reply.now) self.old self.new }
     {
         self.nodes.note_reply(link);
         self.is_map_asked = false;
@@ -157,7 +165,7 @@ impl Session {
         count: u64,
         reply: &[u8],
     ) -> Result<bool, AllocError>
-        ensures { Sets (LearnsReplyOf count reply.now) self.old self.new }
+        ensures { Sets (LearnsReply count (host_at link self.old) reply.now) self.old self.new }
     {
         let Some(node) = self.node_of_link(link) else {
             return Ok(false);
@@ -220,7 +228,8 @@ impl Session {
         link: usize,
         seat: Seat,
     ) -> Result<Option<Target>, AllocError>
-        ensures { Learns (LearnsKept seat self.old.machine) NoPeers (SendsKept seat self.old.machine) self.old self.new }
+        ensures { Learns (LearnsKept (host_at link self.old) seat self.old.machine) NoPeers
+            (SendsKept (host_at link self.old) seat self.old.machine) self.old self.new }
     {
         let Some(part) = self.machine.part(seat.call, seat.part) else {
             return Ok(None);
@@ -264,8 +273,8 @@ impl Session {
         seat: Seat,
         reply: &[u8],
     ) -> Result<(), AllocError>
-        ensures { LearnsThen (LearnsRedirect seat.call seat.part reply.now self.old.machine) NoPeers
-            (SendsRedirect seat.call seat.part reply.now self.old.machine) self.old self.new }
+        ensures { LearnsThen (LearnsRedirect (host_at link self.old) seat.call seat.part reply.now self.old.machine) NoPeers
+            (SendsRedirect (host_at link self.old) seat.call seat.part reply.now self.old.machine) self.old self.new }
     {
         self.nodes.note_reply(link);
         self.want_map_if(wants_map(reply));
@@ -336,7 +345,7 @@ impl Session {
         seat: Seat,
         refusal: &[u8],
     ) -> Result<Option<Target>, AllocError>
-        ensures { IsSentOn seat.call seat.part refusal.now self.old self.new }
+        ensures { IsSentOn link seat.call seat.part refusal.now self.old self.new }
     {
         let Some(part) = self.machine.part(seat.call, seat.part) else {
             return Ok(None);
@@ -387,10 +396,17 @@ impl Session {
         }
     }
 
-    /// The host of the node of a link.
-    fn host_of(&self, link: usize) -> Option<&str> {
-        let node = self.node_of_link(link)?;
-        Some(self.directory.address(node)?.host())
+    /// The host of the node of a link. It is empty if the link has no node.
+    fn host_of(&self, link: usize) -> &str
+        ensures { result.now ≡ host_at link self.entry.now }
+    {
+        let Some(peer) = self.peers.get(link) else {
+            return "";
+        };
+        match self.directory.address(peer.node) {
+            Some(address) => address.host(),
+            None => "",
+        }
     }
 
     /// Notes that a part is done: those that waited for it may be asked, and the reply may be there.
@@ -703,9 +719,9 @@ fn redirect_of(
     alloc: Global,
     part: &Part,
     refusal: &[u8],
-    host: Option<&str>,
+    host: &str,
 ) -> Result<Option<(u16, Redirect)>, AllocError>
-    ensures { IfOk result (λ told. IfSome told (λ to. SendsOn part.now refusal.now to.0 to.1)) }
+    ensures { IfOk result (λ told. IfSome told (λ to. SendsOn host.now part.now refusal.now to.0 to.1)) }
 {
     let PartOrder::OfSlot(slot) = part.order() else {
         return Ok(None);
@@ -723,9 +739,9 @@ fn redirect_of(
 fn redirect_in(
     alloc: Global,
     reply: &[u8],
-    host: Option<&str>,
+    host: &str,
 ) -> Result<Option<(Slot, Redirect)>, AllocError>
-    ensures { IfOk result (λ told. IfSome told (λ to. IsRedirectIn reply.now to.0 to.1)) }
+    ensures { IfOk result (λ told. IfSome told (λ to. IsRedirectIn host.now reply.now to.0 to.1)) }
 {
     let Some(rest) = reply.strip_prefix(b"-") else {
         return Ok(None);
@@ -736,5 +752,5 @@ fn redirect_in(
     let Ok(text) = str::from_utf8(text) else {
         return Ok(None);
     };
-    Redirect::from_error_text(alloc, text, host.unwrap_or(""))
+    Redirect::from_error_text(alloc, text, host)
 }

@@ -16,7 +16,7 @@ returns-in-Asking c = let e = c.ask_asking.ensures in
     let ready = subst (λ (s : SessionState). IsReadyTo c.args.node c.args.link s.peers) (sym c.self.view_is) (c.is_ready_to.ensures c.if-not-is_ready_to.false) in
     let seat = c.args.seat in
     let sent = subst (λ (s : SessionState). asked_node seat.call seat.part s.asks ≡ Some c.args.node) (sym c.self.view_is)
-        (subst (λ (t : Target). IsFor t c.args.self.now seat.call seat.part c.args.node) c.in-Asking.is c.requires) in
+    (subst (λ (t : Target). IsFor t c.args.self.now seat.call seat.part c.args.node) c.in-Asking.is c.requires) in
     subst (λ (s : SessionState). Leads s after) c.self.view_is
     (leads_asked before after true c.args.node c.args.link c.args.seat.call c.args.seat.part c.ask_asking.result ready (λ never. absurd (cc never)) (λ is. sent) e.asked e.not e.err refl)
 

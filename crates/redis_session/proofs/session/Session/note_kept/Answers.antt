@@ -7,7 +7,7 @@ use Rattle.redis_session.proofs.Leads.{leads_only}
 use Rattle.redis_session.proofs.session.Session.note_kept.Goals as goal
 
 pub returns-then-not-keeps_error : goal.returns-then-not-keeps_error
-returns-then-not-keeps_error c = leads_only (LearnsTook c.args.self.now.machine (Kept c.args.seat)) (ReadiesTook c.args.link (Kept c.args.seat)) (SendsTook c.args.self.now.machine (Kept c.args.seat)) c.args.self.now c.note_done.new.self
+returns-then-not-keeps_error c = leads_only (LearnsTook c.args.self.now c.args.link (Kept c.args.seat)) (ReadiesTook c.args.link (Kept c.args.seat)) (SendsTook c.args.self.now c.args.link (Kept c.args.seat)) c.args.self.now c.note_done.new.self
     (subst (λ (s : SessionState). Leads s c.note_done.new.self) c.self.view_is c.note_done.ensures)
 
 pub returns : goal.returns

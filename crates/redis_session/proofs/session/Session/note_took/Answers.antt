@@ -5,11 +5,11 @@ use Rattle.redis_session.proofs.Leads.{leads_nowhere, leads_only, login_noted, m
 use Rattle.redis_session.proofs.session.Session.note_took.Goals as goal
 
 pub returns-in-Nothing : goal.returns-in-Nothing
-returns-in-Nothing c = let s = c.args.self.now in leads_only (LearnsTook s.machine c.args.took) (ReadiesTook c.args.link c.args.took) (SendsTook s.machine c.args.took) s s (leads_nowhere s s refl)
+returns-in-Nothing c = let s = c.args.self.now in leads_only (LearnsTook s c.args.link c.args.took) (ReadiesTook c.args.link c.args.took) (SendsTook s c.args.link c.args.took) s s (leads_nowhere s s refl)
 
 pub returns-in-Asking : goal.returns-in-Asking
 returns-in-Asking c = let s = c.args.self.now in
-    leads_only (LearnsTook s.machine c.args.took) (ReadiesTook c.args.link c.args.took) (SendsTook s.machine c.args.took) s (view_of c.self.inside) (leads_nowhere s (view_of c.self.inside) c.self.view_is)
+    leads_only (LearnsTook s c.args.link c.args.took) (ReadiesTook c.args.link c.args.took) (SendsTook s c.args.link c.args.took) s (view_of c.self.inside) (leads_nowhere s (view_of c.self.inside) c.self.view_is)
 
 pub returns-in-Login : goal.returns-in-Login
 returns-in-Login c =
