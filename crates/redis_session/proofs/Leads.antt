@@ -21,11 +21,12 @@ use Rattle.session_machine.specs.declared.took.Took.TheVariants.{Nothing, Kept, 
 use Rattle.redis_session.specs.Asks.{AreFewer, Asks, asked_node}
 use Rattle.redis_session.specs.Directory.{Grows}
 use Rattle.redis_session.specs.Learned.{Learns, LearnsKept, LearnsOf, LearnsRedirect, LearnsReply, LearnsTook, NoAsks, NoPeers, Readies, ReadiesOf, SendsKept, SendsOf, SendsRedirect, Sets, host_at}
-use Rattle.redis_session.specs.Leads.{Acts, AsksAfter, AsksLogin, BeginsLink, ChangesPeer, Does, Ends, Finishes, GivesReply, Hails, Hears, IsConnected, IsOpened, IsOwn, Knows, Leads, LearnsThen, Notes, Opens, Serves, TakesAll, TakesReplies, TakesReply, map_request}
+use Rattle.redis_session.specs.Leads.{Acts, AsksLogin, BeginsLink, ChangesPeer, Does, Ends, Finishes, Frees, GivesReply, Hails, Hears, IsConnected, IsOpened, IsOwn, Knows, Leads, LearnsThen, Notes, Opens, Serves, TakesAll, TakesReplies, TakesReply, map_request}
+use Rattle.redis_session.specs.Loads.{Lightens}
 use Rattle.redis_session.specs.Peers.{IsReadyTo, Peers, peer_at}
 use Rattle.redis_session.specs.SessionStates.{SessionState, is_reply_of, without_reply}
 use Rattle.redis_session.specs.Table.{Table}
-use Rattle.redis_session.proofs.SentParts.{fewer_not}
+use Rattle.redis_session.specs.declared.load.Load.{Load}
 
 acts_on : (events more : List Event) (old mid new : SessionState) → Acts old events mid → Acts mid more new → Acts old (events ++ more) new
 acts_on [] more old mid new acts rest = subst (λ s. Acts s more new) acts rest
@@ -34,37 +35,42 @@ acts_on (e ∷ events) more old mid new acts rest = (acts.0, acts.1, acts.2, act
 pub leads_nowhere : (old new : SessionState) → new ≡ old → Leads old new
 leads_nowhere old new same = record { events = []; acts = same }
 
-asks_stay : (e : Event) (old new : Asks) → new ≡ old → AsksAfter e old new
-asks_stay (Leave call) old new same = fewer_not old new same
-asks_stay (Open number most) old new same = same
-asks_stay (On number event) old new same = same
-asks_stay (Forget number) old new same = same
-asks_stay (Begin call caller parts) old new same = same
-asks_stay (GiveUp call) old new same = same
-asks_stay (End call part cause) old new same = same
-asks_stay (Finish call state) old new same = same
-asks_stay Trim old new same = same
+-- no call leaves with this
+abbrev pub LeavesNone : Event → Type 0
+LeavesNone (Leave call) = ⊥
+LeavesNone other = Unit {0}
 
-pub does_by : (old new : SessionState) (e : Event) → Happens old.machine e new.machine → new ≡ record old { machine = new.machine } → Does e old new
-does_by old new e happens others = record {
+frees_none : (e : Event) (old new : SessionState) → LeavesNone e → new.asks ≡ old.asks → new.load ≡ old.load → Frees e old new
+frees_none (Leave call) old new none asks load = absurd none
+frees_none (Open number most) old new none asks load = (asks, load)
+frees_none (On number event) old new none asks load = (asks, load)
+frees_none (Forget number) old new none asks load = (asks, load)
+frees_none (Begin call caller parts) old new none asks load = (asks, load)
+frees_none (GiveUp call) old new none asks load = (asks, load)
+frees_none (End call part cause) old new none asks load = (asks, load)
+frees_none (Finish call state) old new none asks load = (asks, load)
+frees_none Trim old new none asks load = (asks, load)
+
+pub does_by : (old new : SessionState) (e : Event) → LeavesNone e → Happens old.machine e new.machine → new ≡ record old { machine = new.machine } → Does e old new
+does_by old new e none happens others = record {
   happens = happens;
-  asks = asks_stay e old.asks new.asks (ap (λ (s : SessionState). s.asks) others);
-  others = others ∙ ap (λ (asks : Asks). record old { machine = new.machine; asks = asks }) (sym (ap (λ (s : SessionState). s.asks) others));
+  frees = frees_none e old new none (ap (λ (s : SessionState). s.asks) others) (ap (λ (s : SessionState). s.load) others);
+  others = subst (λ (s : SessionState). s ≡ record old { machine = s.machine; asks = s.asks; load = s.load }) (sym others) refl;
 }
 
-pub leads_by : (old new : SessionState) (e : Event) → Happens old.machine e new.machine → IsOwn old e → new ≡ record old { machine = new.machine } → Leads old new
-leads_by old new e happens own others = record { events = e ∷ []; acts = (new, does_by old new e happens others, own, refl) }
+pub leads_by : (old new : SessionState) (e : Event) → LeavesNone e → Happens old.machine e new.machine → IsOwn old e → new ≡ record old { machine = new.machine } → Leads old new
+leads_by old new e none happens own others = record { events = e ∷ []; acts = (new, does_by old new e none happens others, own, refl) }
 
 pub leads_on : (old mid new : SessionState) → Leads old mid → Leads mid new → Leads old new
 leads_on old mid new first then = record { events = first.events ++ then.events; acts = acts_on first.events then.events old mid new first.acts then.acts }
 
 -- a call leaves, and then the session goes on
-pub leads_leave : (start before now : SessionState) (call : ℕ) (machine : State) (asks : Asks) (new : SessionState) → Leads start now → before ≡ now → Happens before.machine (Leave call) machine
-    → is_reply_of call before.given ≡ false → AreFewer before.asks asks → Leads (record before { machine = machine; asks = asks }) new → Leads start new
-leads_leave start before now call machine asks new first same happens own fewer then =
-    let mid = record before { machine = machine; asks = asks } in
+pub leads_leave : (start before now : SessionState) (call : ℕ) (machine : State) (asks : Asks) (load : Load) (new : SessionState) → Leads start now → before ≡ now → Happens before.machine (Leave call) machine
+    → is_reply_of call before.given ≡ false → AreFewer before.asks asks → Lightens before.load load → Leads (record before { machine = machine; asks = asks; load = load }) new → Leads start new
+leads_leave start before now call machine asks load new first same happens own fewer lighter then =
+    let mid = record before { machine = machine; asks = asks; load = load } in
     leads_on start now new first (subst (λ (s : SessionState). Leads s new) same
-    (leads_on before mid new (record { events = Leave call ∷ []; acts = (mid, record { happens = happens; asks = fewer; others = refl }, own, refl) }) then))
+    (leads_on before mid new (record { events = Leave call ∷ []; acts = (mid, record { happens = happens; frees = (fewer, lighter); others = refl }, own, refl) }) then))
 
 -- A step of the links and calls, then more.
 pub leads_through : (start before now : SessionState) (machine : State) (new : SessionState) → Leads start now → before ≡ now
@@ -73,15 +79,15 @@ leads_through start before now machine new first same step then =
     leads_on start now new first (subst (λ (s : SessionState). Leads s new) same (leads_on before (record before { machine = machine }) new step then))
 
 -- It happens or nothing changes, as this answer says.
-pub leads_if : (old new : SessionState) (e : Event) (answer : Bool) → IsOwn old e → (answer ≡ true → Happens old.machine e new.machine) → (answer ≡ false → new.machine ≡ old.machine)
+pub leads_if : (old new : SessionState) (e : Event) (answer : Bool) → LeavesNone e → IsOwn old e → (answer ≡ true → Happens old.machine e new.machine) → (answer ≡ false → new.machine ≡ old.machine)
     → new ≡ record old { machine = new.machine } → Leads old new
-leads_if old new e true own does not others = leads_by old new e (does refl) own others
-leads_if old new e false own does not others = leads_nowhere old new (others ∙ ap (λ (m : State). record old { machine = m }) (not refl))
+leads_if old new e true none own does not others = leads_by old new e none (does refl) own others
+leads_if old new e false none own does not others = leads_nowhere old new (others ∙ ap (λ (m : State). record old { machine = m }) (not refl))
 
-pub leads_ok : {X E : Type 0} (old new : SessionState) (e : Event) (result : Result X E) → IsOwn old e → OnOk result (Happens old.machine e new.machine) → OnErr result (new.machine ≡ old.machine)
+pub leads_ok : {X E : Type 0} (old new : SessionState) (e : Event) (result : Result X E) → LeavesNone e → IsOwn old e → OnOk result (Happens old.machine e new.machine) → OnErr result (new.machine ≡ old.machine)
     → new ≡ record old { machine = new.machine } → Leads old new
-leads_ok old new e (Ok x) own does not others = leads_by old new e does own others
-leads_ok old new e (Err y) own does not others = leads_nowhere old new (others ∙ ap (λ (m : State). record old { machine = m }) not)
+leads_ok old new e (Ok x) none own does not others = leads_by old new e none does own others
+leads_ok old new e (Err y) none own does not others = leads_nowhere old new (others ∙ ap (λ (m : State). record old { machine = m }) not)
 
 -- a part is asked, with `ASKING` before it or without
 own_put : (s : SessionState) (asks : Bool) (node number call part : ℕ) (request : List ℕ) → IsReadyTo node number s.peers
@@ -106,7 +112,7 @@ pub leads_asked : {E : Type 0} (old new : SessionState) (asks : Bool) (node numb
     → (result ≡ Ok true → (request : List ℕ) × Happens old.machine (On number (link.Put (put_for asks call part request))) new.machine)
     → (result ≡ Ok false → new.machine ≡ old.machine) → OnErr result (new.machine ≡ old.machine) → new ≡ record old { machine = new.machine } → Leads old new
 leads_asked old new asks node number call part (Ok true) ready serves sent does not fails others =
-    let it = does refl in leads_by old new (On number (link.Put (put_for asks call part it.0))) it.1 (own_put old asks node number call part it.0 ready serves sent) others
+    let it = does refl in leads_by old new (On number (link.Put (put_for asks call part it.0))) tt it.1 (own_put old asks node number call part it.0 ready serves sent) others
 leads_asked old new asks node number call part (Ok false) ready serves sent does not fails others = leads_nowhere old new (others ∙ ap (λ (m : State). record old { machine = m }) (not refl))
 leads_asked old new asks node number call part (Err y) ready serves sent does not fails others = leads_nowhere old new (others ∙ ap (λ (m : State). record old { machine = m }) fails)
 
@@ -252,7 +258,7 @@ module _ (number : ℕ) (old : SessionState) (machine : State) (new : SessionSta
         ticket = ticket;
         reply = reply;
         mid = mid;
-        taken = record { happens = happens; asks = refl; others = refl };
+        taken = record { happens = happens; frees = (refl, refl); others = refl };
         wiser = notes.wiser;
         learns = notes.learns;
         leads = notes.leads;
@@ -309,7 +315,7 @@ pub breaks_off : (number : ℕ) (start before now new : SessionState) (machine :
 breaks_off number start before now new machine took cause so_far same is broken then =
     takes_all so_far.0 number start now new so_far.1
     (subst (λ (s : SessionState). Leads now s) (sym then) (subst (λ (s : SessionState). Leads s (record before { machine = machine })) same
-    (leads_by before (record before { machine = machine }) (On number (link.Break cause)) (subst (λ (t : Took). IsTook number before.machine t machine) broken is) tt refl)))
+    (leads_by before (record before { machine = machine }) (On number (link.Break cause)) tt (subst (λ (t : Took). IsTook number before.machine t machine) broken is) tt refl)))
 
 pub all_then : (number : ℕ) (old mid new : SessionState) → TakesAll number old mid → Leads mid new → TakesAll number old new
 all_then number old mid new takes then = takes_all takes.count number old takes.mid new takes.takes (leads_on takes.mid mid new takes.leads then)
@@ -322,7 +328,7 @@ hears_by number bytes old mid new hears takes = record { mid = mid; hears = hear
 pub login_asked : (number : ℕ) (old : SessionState) (machine : State) (request : List ℕ) → request ≡ old.settings.login
     → Happens old.machine (On number (link.Put ((ticket.Login, request) ∷ []))) machine → AsksLogin number old (record old { machine = machine })
 login_asked number old machine request is happens =
-    inr (record { happens = subst (λ (r : List ℕ). Happens old.machine (On number (link.Put ((ticket.Login, r) ∷ []))) machine) is happens; asks = refl; others = refl })
+    inr (record { happens = subst (λ (r : List ℕ). Happens old.machine (On number (link.Put ((ticket.Login, r) ∷ []))) machine) is happens; frees = (refl, refl); others = refl })
 
 pub opens_by : (number node : ℕ) (old mid ready new : SessionState) → IsOpened number old mid → BeginsLink number node mid ready → Leads ready new → Opens number node old new
 opens_by number node old mid ready new opened begins leads = record { mid = mid; opened = opened; ready = ready; begins = begins; leads = leads }

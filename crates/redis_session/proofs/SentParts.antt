@@ -1,5 +1,5 @@
 -- Where parts were sent by `ASK`.
-use Rattle.std.proofs.Common.{◌≡◌, ◌⊎◌, inl, inr, ◌∙◌, ℕ, Bool, true, false, cond, Option, None, Some, refl, sym, subst, arith}
+use Rattle.std.proofs.Common.{◌≡◌, ◌⊎◌, inl, inr, ◌∙◌, ℕ, Bool, true, false, cond, Option, None, Some, refl, sym, arith}
 use Rattle.std.specs.BTreeMap.{BTreeMap, UpdatesBy, is_at}
 use Rattle.std.specs.Ordering.{is_eq, nat_cmp, ordering_then}
 use Rattle.std.specs.declared.cmp.Ordering.{Ordering}
@@ -34,6 +34,3 @@ are_fewer call part old new updates c p n is = one_less (is_at (seat_cmp (call, 
 
 pub fewer_on : (old mid new : Asks) → AreFewer old mid → AreFewer mid new → AreFewer old new
 fewer_on old mid new first then c p n is = first c p n (then c p n is)
-
-pub fewer_not : (old new : Asks) → new ≡ old → AreFewer old new
-fewer_not old new same c p n is = subst (λ (asks : Asks). asked_node c p asks ≡ Some n) same is

@@ -16,6 +16,10 @@ use Rattle.session_core.specs.Part.{PartState, is_done}
 use Rattle.session_machine.specs.declared.took.Took.{Took}
 use Rattle.cluster_slots.specs.Address.{Address}
 use Rattle.redis_session.specs.Asks.{AreFewer, Asks, asked_node}
+use Rattle.redis_session.specs.Loads.{HasRoom, Lightens, heavier}
+use Rattle.redis_session.specs.Refusals.{IsCallRefused}
+use Rattle.redis_session.specs.declared.refusal.CallRefusal.{CallRefusal}
+use Rattle.redis_session.specs.declared.refusal.CallRefusal.TheVariants.{Limit}
 use Rattle.redis_session.specs.Begins.{IsErrand}
 use Rattle.redis_session.specs.CallReplies.{IsReplyTo}
 use Rattle.redis_session.specs.Deadlines.{Forgets, deadline_of, is_over}
@@ -83,16 +87,16 @@ IsOwn s (Leave call) = is_reply_of call s.given ≡ false
 IsOwn s Trim = Unit {0}
 IsOwn s other = ⊥
 
--- with a call that leaves, the session may forget where its parts were sent
-abbrev pub AsksAfter : Event → Asks → Asks → Type 0
-AsksAfter (Leave call) old new = AreFewer old new
-AsksAfter other old new = new ≡ old
+-- With a call that leaves, the session keeps one less, and may forget where its parts were sent.
+abbrev pub Frees : Event → SessionState → SessionState → Type 0
+Frees (Leave call) old new = AreFewer old.asks new.asks × Lightens old.load new.load
+Frees other old new = (new.asks ≡ old.asks) × (new.load ≡ old.load)
 
 -- This happens to the links and calls of a session, and nothing else of it changes.
 pub record Does (event : Event) (old new : SessionState) : Type 0 where
   pub happens : Happens old.machine event new.machine
-  pub asks : AsksAfter event old.asks new.asks
-  pub others : new ≡ record old { machine = new.machine; asks = new.asks }
+  pub frees : Frees event old new
+  pub others : new ≡ record old { machine = new.machine; asks = new.asks; load = new.load }
 
 -- The session does these things by itself, one after the other.
 abbrev pub Acts : SessionState → List Event → SessionState → Type 0
@@ -225,19 +229,27 @@ ConnectsNot old new =
     ((number : ℕ) × (mid : SessionState) × IsOpened number old mid × Ends number mid new) ⊎ (new ≡ old)
 
 -- A call begins with these parts and this deadline. Each other call has the rule that it had, and the deadline if it is
--- still there. Nothing else changes.
+-- still there. Nothing else changes but how much is kept.
 pub record AddsCall (call caller deadline : ℕ) (parts : List PartState) (old new : SessionState) : Type 0 where
   pub happens : Happens old.machine (Begin call caller parts) new.machine
   pub keep_rules : KeepOthers call old.rules new.rules
   pub deadlines : Forgets new.machine (old.deadlines ++ (call, deadline) ∷ []) new.deadlines
-  pub others : new ≡ record old { machine = new.machine; rules = new.rules; deadlines = new.deadlines }
+  pub others : new ≡ record old { machine = new.machine; rules = new.rules; deadlines = new.deadlines; load = new.load }
+
+-- why a session refuses a request
+abbrev pub IsRefused : SessionState → List ℕ → CallRefusal → Type 0
+IsRefused s request refusal =
+    ((refusal ≡ Limit) × (HasRoom s.settings.most_calls s.settings.most_bytes (length request) s.load → ⊥))
+    ⊎ IsCallRefused (names s) s.settings.added request refusal
 
 -- A call of this caller begins, and has this number. It asks what the request asks, and its reply is to be made so. Its
 -- parts are not told late before this deadline.
 pub record BeginsCall (caller : ℕ) (request : List ℕ) (deadline call : ℕ) (old new : SessionState) : Type 0 where
   pub mid : SessionState
   pub parts : List PartState
+  pub room : HasRoom old.settings.most_calls old.settings.most_bytes (length request) old.load
   pub adds : AddsCall call caller deadline parts old mid
+  pub load : mid.load ≡ heavier (length request) old.load
   pub errand : IsErrand old.directory old.settings request (rule_in mid.rules call) parts
   pub leads : Leads mid new
 

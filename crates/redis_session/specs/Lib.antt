@@ -15,6 +15,7 @@ pub mod Directory
 pub mod Inner
 pub mod Leads
 pub mod Learned
+pub mod Loads
 pub mod Peers
 pub mod Plans
 pub mod Refusals

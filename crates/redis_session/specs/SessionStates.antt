@@ -13,6 +13,7 @@ use Rattle.redis_session.specs.Rules.{KeptRules}
 use Rattle.redis_session.specs.Told.{error_reply, unfit_reply}
 use Rattle.redis_session.specs.declared.session.replying.LastReply.{LastReply}
 use Rattle.redis_session.specs.declared.session.replying.LastReply.TheVariants as last
+use Rattle.redis_session.specs.declared.load.Load.{Load}
 use Rattle.redis_session.specs.declared.settings.Settings.{Settings}
 
 -- The reply that was given last.
@@ -42,6 +43,10 @@ pub record SessionSettings : Type 0 where
   pub login : List ℕ
   -- how many bytes a reply may have
   pub most_reply_bytes : ℕ
+  -- how many calls are kept at most
+  pub most_calls : ℕ
+  -- how many bytes their requests have at most
+  pub most_bytes : ℕ
   -- how often nodes may refuse a part before it is given up
   pub retries : ℕ
   -- the names of the commands that only read
@@ -55,6 +60,8 @@ abbrev pub settings_of : Settings → SessionSettings
 settings_of s = record {
   login = s.login.items;
   most_reply_bytes = s.most_reply_bytes;
+  most_calls = s.most_calls;
+  most_bytes = s.most_bytes;
   retries = s.retries;
   read_only = s.read_only;
   registered = s.registry;
@@ -75,6 +82,8 @@ pub record SessionState : Type 0 where
   pub asks : Asks
   -- when the times of its calls are over
   pub deadlines : Deadlines
+  -- how much it keeps for its calls
+  pub load : Load
   -- the time that was noted last
   pub now : ℕ
   pub settings : SessionSettings
@@ -88,6 +97,7 @@ new_session settings = record {
   directory = record { nodes = []; table = record { map = []; moved = []; count = 0 } };
   peers = [];
   asks = [];
+  load = record { calls = 0; bytes = 0 };
   deadlines = [];
   now = 0;
   settings = settings;

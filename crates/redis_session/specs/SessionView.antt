@@ -10,6 +10,7 @@ view_of s = record {
   directory = s.directory;
   peers = s.peers;
   asks = s.asks;
+  load = s.load;
   deadlines = s.deadlines;
   now = s.now;
   settings = settings_of s.settings;

@@ -29,6 +29,7 @@ mod asks;
 mod call_deadlines;
 mod directory;
 mod kind;
+mod load;
 mod nodes;
 mod number_queue;
 mod peers;

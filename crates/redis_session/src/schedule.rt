@@ -128,11 +128,7 @@ pub(crate) struct Schedule {
     /// The places of the callers whose next reply may be there, in a list through their records.
     first_due: Option<usize>,
     last_due: Option<usize>,
-    /// How many calls are kept: those that began and did not leave.
-    call_count: usize,
-    /// How many bytes their requests have.
-    byte_count: usize,
-    /// How many parts they have.
+    /// How many parts the calls have that began and did not leave.
     part_count: usize,
 }
 
@@ -168,8 +164,6 @@ impl Schedule {
             other_deadlines: BTreeSet::new(alloc),
             first_due: None,
             last_due: None,
-            call_count: 0,
-            byte_count: 0,
             part_count: 0,
         }
     }
@@ -182,16 +176,6 @@ impl Schedule {
     /// How many steps a walk over all calls takes at most.
     pub(crate) fn most_calls(&self) -> usize {
         self.calls.len()
-    }
-
-    /// How many calls are kept.
-    pub(crate) fn call_count(&self) -> usize {
-        self.call_count
-    }
-
-    /// How many bytes the requests of the kept calls have.
-    pub(crate) fn byte_count(&self) -> usize {
-        self.byte_count
     }
 
     /// How many steps a walk over the due callers takes at most.
@@ -282,9 +266,7 @@ impl Schedule {
         let Some(record) = self.call(call) else {
             return;
         };
-        let (place, count, bytes) = (record.place, record.part_count, record.bytes);
-        self.call_count = self.call_count.saturating_add(1);
-        self.byte_count = self.byte_count.saturating_add(bytes);
+        let (place, count) = (record.place, record.part_count);
         self.part_count = self.part_count.saturating_add(count);
         self.note_last(place, call);
         for part in 0..count {

@@ -10,6 +10,7 @@ mod taking;
 use crate::asks::Asks;
 use crate::call_deadlines::CallDeadlines;
 use crate::directory::Directory;
+use crate::load::Load;
 use crate::nodes::{NodeLink, Nodes};
 use crate::peers::Peers;
 use crate::refusal::CallRefusal;
@@ -32,6 +33,7 @@ pub struct Session {
     pub(crate) directory: Directory,
     pub(crate) peers: Peers,
     pub(crate) asks: Asks,
+    pub(crate) load: Load,
     pub(crate) deadlines: CallDeadlines,
     pub(crate) nodes: Nodes,
     pub(crate) schedule: Schedule,
@@ -66,10 +68,8 @@ impl Session {
     ghost use Rattle.session_core.specs.declared.link.Standing.TheVariants as Standing;
     ghost use Rattle.session_core.specs.LinkEvents as events;
     ghost use Rattle.session_core.specs.Channel.{Channel, to_write};
-    ghost use Rattle.redis_session.specs.Refusals.{IsCallRefused};
-    ghost use Rattle.redis_session.specs.SessionStates.{names, new_session, settings_of};
-    ghost use Rattle.redis_session.specs.declared.refusal.CallRefusal.TheVariants as refused;
-    ghost use Rattle.redis_session.specs.Leads.{Advances, Does, Knows, Leads, Opens, Hears, HearsNot, Ends, ConnectsNot, BeginsCall, GivesUp, IsOpen};
+    ghost use Rattle.redis_session.specs.SessionStates.{new_session, settings_of};
+    ghost use Rattle.redis_session.specs.Leads.{Advances, Does, Knows, Leads, Opens, Hears, HearsNot, Ends, ConnectsNot, BeginsCall, GivesUp, IsOpen, IsRefused};
 
     /// No links, no calls, and no slot has a node. Takes no memory.
     pub fn new(alloc: Global, settings: Settings) -> Session
@@ -81,6 +81,7 @@ impl Session {
             directory: Directory::new(alloc),
             peers: Peers::new(alloc),
             asks: Asks::new(alloc),
+            load: Load::new(),
             deadlines: CallDeadlines::new(alloc),
             nodes: Nodes::new(alloc),
             schedule: Schedule::new(alloc),
@@ -299,8 +300,7 @@ impl Session {
     ) -> Result<u64, CallRefusal>
         ensures begun { IfOk result (λ call. BeginsCall caller request.now deadline call self.old self.new) }
         ensures refused { OnErr result (self.new ≡ self.old) }
-        ensures why { IfErr result (λ refusal. (refusal ≡ refused.Limit)
-            ⊎ IsCallRefused (names self.old) self.old.settings.added request.now refusal) }
+        ensures why { IfErr result (IsRefused self.old request.now) }
     {
         let call = self.begin_call(alloc, caller, request, deadline)?;
         // What finds no memory now is asked in a later step.

@@ -25,6 +25,8 @@ abbrev pub opened : SessionSettings → (login : List ℕ) → SessionState
 opened settings login = new_session (record {
   login = login;
   most_reply_bytes = settings.most_reply_bytes;
+  most_calls = settings.most_calls;
+  most_bytes = settings.most_bytes;
   retries = settings.retries;
   read_only = [];
   registered = [];

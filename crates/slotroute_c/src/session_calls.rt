@@ -1,7 +1,6 @@
 ghost use Rattle.std.specs.Prelude.{◌≡◌, ◌≢◌, ◌⊎◌, ◌∷◌, [], Some, true, IsTrue};
 ghost use Rattle.session_core.specs.State.{CallState, call_at};
-ghost use Rattle.redis_session.specs.Leads.{Advances, BeginsCall, GivesUp};
-ghost use Rattle.redis_session.specs.Refusals.{IsCallRefused};
+ghost use Rattle.redis_session.specs.Leads.{Advances, BeginsCall, GivesUp, IsRefused};
 ghost use Rattle.redis_session.specs.SessionStates.{names};
 ghost use Rattle.redis_session.specs.declared.refusal.CallRefusal as refused;
 ghost use Rattle.redis_session.specs.declared.refusal.CallRefusal.TheVariants as refusals;
@@ -34,8 +33,7 @@ pub extern "C" fn slotroute_session_begin(
         → BeginsCall caller request.now deadline call.new session.old.value session.new.value }
     ensures refused { result ≢ code Outcome.Done → (refusal : refused.CallRefusal)
         × (result ≡ code (of_refusal refusal)) × (session.new.value ≡ session.old.value)
-        × (call.new ≡ call.old) × ((refusal ≡ refusals.Limit)
-        ⊎ IsCallRefused (names session.old.value) session.old.value.settings.added request.now refusal) }
+        × (call.new ≡ call.old) × IsRefused session.old.value request.now refusal }
 {
     match session.get_mut().begin(alloc, caller, request, deadline) {
         Ok(number) => {

@@ -130,25 +130,25 @@ impl Schedule {
         }
     }
 
-    /// Notes that the first call left of the caller at a place. Its parts are in no list.
-    pub(crate) fn note_left(&mut self, place: usize) {
+    /// Notes that the first call left of the caller at a place. Its parts are in no list. Returns how many bytes its
+    /// request has.
+    pub(crate) fn note_left(&mut self, place: usize) -> usize {
         let Some(call) = self.first_call(place) else {
-            return;
+            return 0;
         };
         let Some(record) = self.call_mut(call) else {
-            return;
+            return 0;
         };
         record.has_left = true;
         let count = record.part_count;
         let bytes = record.bytes;
         let next = record.next_of_caller;
-        self.call_count = self.call_count.saturating_sub(1);
-        self.byte_count = self.byte_count.saturating_sub(bytes);
         self.part_count = self.part_count.saturating_sub(count);
         match next {
             Some(next) => self.set_first_call(place, next),
             None => self.forget_calls(place),
         }
+        bytes
     }
 
     fn set_first_call(&mut self, place: usize, call: u64) {

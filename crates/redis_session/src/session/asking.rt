@@ -29,7 +29,7 @@ struct Errand {
 }
 
 impl Session {
-    ghost use Rattle.std.specs.Prelude.{◌⊎◌, IfErr, IfSome, List, OnErr};
+    ghost use Rattle.std.specs.Prelude.{IfErr, IfSome, List, OnErr};
     ghost use Rattle.session_core.specs.Part.{PartState};
     ghost use Rattle.session_core.specs.declared.link.Standing.TheVariants.{Open};
     ghost use Rattle.session_core.specs.Channel.{Channel};
@@ -37,13 +37,13 @@ impl Session {
     ghost use Rattle.redis_session.specs.Begins.{IsErrand};
     ghost use Rattle.redis_session.specs.Deadlines.{Forgets};
     ghost use Rattle.redis_session.specs.Directory.{AreNumbersOf};
-    ghost use Rattle.redis_session.specs.Leads.{AddsCall, AsksLogin, BeginsLink, ChangesPeer, Leads, Serves};
+    ghost use Rattle.redis_session.specs.Leads.{AddsCall, AsksLogin, BeginsLink, ChangesPeer, IsRefused, Leads, Serves};
     ghost use Rattle.redis_session.specs.Peers.{IsReadyTo};
     ghost use Rattle.redis_session.specs.Targets.{IsFor};
     ghost use Rattle.redis_session.specs.Refusals.{IsCallRefused};
     ghost use Rattle.redis_session.specs.Rules.{rule_in};
     ghost use Rattle.redis_session.specs.SessionStates.{names};
-    ghost use Rattle.redis_session.specs.declared.refusal.CallRefusal.TheVariants as refused;
+    ghost use Rattle.redis_session.specs.Loads.{HasRoom, heavier};
 
     /// Begins a call. Its parts are to be asked in this step.
     pub(crate) fn begin_call(
@@ -53,16 +53,18 @@ impl Session {
         request: &[u8],
         deadline: u64,
     ) -> Result<u64, CallRefusal>
+        ensures room { OnOk result (HasRoom self.old.settings.most_calls self.old.settings.most_bytes
+            (length request.now) self.old.load) }
+        ensures load { OnOk result (self.new.load ≡ heavier (length request.now) self.old.load) }
         ensures begun { IfOk result (λ call. (parts : List PartState)
             × AddsCall call caller deadline parts self.old self.new
             × IsErrand self.old.directory self.old.settings request.now (rule_in self.new.rules call) parts) }
         ensures refused { OnErr result (self.new ≡ self.old) }
-        ensures why { IfErr result (λ refusal. (refusal ≡ refused.Limit)
-            ⊎ IsCallRefused (names self.old) self.old.settings.added request.now refusal) }
+        ensures why { IfErr result (IsRefused self.old request.now) }
     {
-        if !self.has_room(request.len()) {
+        let Some(load) = self.load.with_call(request.len(), &self.settings) else {
             return Err(CallRefusal::Limit);
-        }
+        };
         let errand = self.errand(alloc, request)?;
         self.schedule.add_call(NewCall {
             caller,
@@ -73,6 +75,7 @@ impl Session {
         match self.begin_parts(alloc, caller, errand.rule, errand.parts, deadline) {
             Ok(call) => {
                 self.schedule.note_begun();
+                self.load = load;
                 Ok(call)
             }
             Err(_) => {
@@ -129,12 +132,6 @@ impl Session {
             };
             self.deadlines.forget_first();
         }
-    }
-
-    /// Whether a call may be kept besides those that are kept, if its request has so many bytes.
-    fn has_room(&self, bytes: usize) -> bool {
-        self.schedule.call_count() < self.settings.most_calls
-            && self.schedule.byte_count().saturating_add(bytes) <= self.settings.most_bytes
     }
 
     /// What a request asks of nodes.

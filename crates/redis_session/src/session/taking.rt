@@ -689,7 +689,8 @@ impl Session {
             }
             let count = self.schedule.part_count(call);
             self.asks.forget_call(call, count);
-            self.schedule.note_left(place);
+            let bytes = self.schedule.note_left(place);
+            self.load = self.load.without_call(bytes);
             self.trim();
         }
     }

@@ -15,5 +15,5 @@ returns c =
     let after = record before { machine = c.ask_map.new.self } in
     let ready = c.is_ready_to.ensures c.if-not-is_ready_to.false in
     subst (λ (s : SessionState). Leads s after) c.self.view_is
-    (leads_by before after (On c.in-Some.link (link.Put ((ticket.Map c.moved_count.result, slots_bytes) ∷ []))) c.in_ok-ask_map.ensures.ok
+    (leads_by before after (On c.in-Some.link (link.Put ((ticket.Map c.moved_count.result, slots_bytes) ∷ []))) tt c.in_ok-ask_map.ensures.ok
     (own_map before c.in-Some.node c.in-Some.link c.moved_count.result ready c.moved_count.ensures) refl)

@@ -10,7 +10,7 @@ pub returns-in-Err-clause-err : goal.returns-in-Err-clause-err
 returns-in-Err-clause-err c =
     let before = view_of c.self.inside in
     let after = record before { machine = c.open.new.self } in
-    let opened = does_by before after (Open c.in-Ok.opened before.settings.most_reply_bytes) c.in-Ok.ensures.ok refl in
+    let opened = does_by before after (Open c.in-Ok.opened before.settings.most_reply_bytes) tt c.in-Ok.ensures.ok refl in
     inl (
       c.in-Ok.opened,
       after,
@@ -24,4 +24,4 @@ returns-clause-ok c =
     let after = record before { machine = c.open.new.self } in
     subst (λ (s : SessionState). Opens c.in-Ok.opened c.args.node s c.step.new.self) c.self.view_is
     (opens_by c.in-Ok.opened c.args.node before after c.begin_link.new.self c.step.new.self
-    (does_by before after (Open c.in-Ok.opened before.settings.most_reply_bytes) c.in-Ok.ensures.ok refl) c.in_default-begin_link.ensures.ok c.step.ensures)
+    (does_by before after (Open c.in-Ok.opened before.settings.most_reply_bytes) tt c.in-Ok.ensures.ok refl) c.in_default-begin_link.ensures.ok c.step.ensures)

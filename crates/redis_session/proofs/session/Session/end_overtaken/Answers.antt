@@ -10,4 +10,4 @@ loop-preserved c = let seat = c.in-Some-end_overtaken.overtaken in
     let before = view_of c.loop.self-inside in
     let after = record before { machine = c.end_overtaken.new.self } in
     leads_on c.args.self.now before after c.loop.invariant
-    (leads_by before after (End seat.call seat.part Overtaken) c.in-Some-end_overtaken.ensures.ended refl refl)
+    (leads_by before after (End seat.call seat.part Overtaken) tt c.in-Some-end_overtaken.ensures.ended refl refl)

@@ -12,4 +12,4 @@ returns c = let it = c.end_late in
     let before = view_of c.self.inside in
     let after = record before { machine = it.new.self } in
     subst (λ (s : SessionState). Leads s after) c.self.view_is
-    (leads_if before after (End c.args.seat.call c.args.seat.part Late) it.result (sym c.is_over.ensures ∙ c.if-not-is_over.false) it.ensures.ended it.ensures.not refl)
+    (leads_if before after (End c.args.seat.call c.args.seat.part Late) it.result tt (sym c.is_over.ensures ∙ c.if-not-is_over.false) it.ensures.ended it.ensures.not refl)

@@ -12,4 +12,4 @@ returns-then-may_lack_node c = let it = c.end_without_node in
     let before = view_of c.self.inside in
     let after = record before { machine = it.new.self } in
     subst (λ (s : SessionState). Leads s after) c.self.view_is
-    (leads_if before after (End c.args.seat.call c.args.seat.part NoNode) it.result (subst (λ (s : SessionState). may_end s c.args.seat.call NoNode ≡ true) (sym c.self.view_is) (sym c.may_lack_node.ensures ∙ c.if-may_lack_node.true)) it.ensures.ended it.ensures.not refl)
+    (leads_if before after (End c.args.seat.call c.args.seat.part NoNode) it.result tt (subst (λ (s : SessionState). may_end s c.args.seat.call NoNode ≡ true) (sym c.self.view_is) (sym c.may_lack_node.ensures ∙ c.if-may_lack_node.true)) it.ensures.ended it.ensures.not refl)

@@ -9,4 +9,4 @@ loop-preserved c =
     let before = view_of c.loop.self-inside in
     let after = record before { machine = c.trim.new.self } in
     leads_on c.args.self.now before after c.loop.invariant
-    (leads_by before after Trim (c.trim.ensures.trimmed c.if-not-trim.false) tt refl)
+    (leads_by before after Trim tt (c.trim.ensures.trimmed c.if-not-trim.false) tt refl)
