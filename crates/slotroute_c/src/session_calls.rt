@@ -1,9 +1,7 @@
-ghost use Rattle.std.specs.Prelude.{◌≡◌, ◌≢◌, ◌⊎◌, ◌∷◌, [], Some, true, IsTrue};
+ghost use Rattle.std.specs.Prelude.{◌≡◌, ◌≢◌, ◌∷◌, [], Some, true, IsTrue};
 ghost use Rattle.session_core.specs.State.{CallState, call_at};
 ghost use Rattle.redis_session.specs.Leads.{Advances, BeginsCall, GivesUp, IsRefused};
-ghost use Rattle.redis_session.specs.SessionStates.{names};
 ghost use Rattle.redis_session.specs.declared.refusal.CallRefusal as refused;
-ghost use Rattle.redis_session.specs.declared.refusal.CallRefusal.TheVariants as refusals;
 ghost use Rattle.slotroute_c.specs.Outcomes.{code, is_one_of};
 ghost use Rattle.slotroute_c.specs.Refused.{of_refusal};
 
