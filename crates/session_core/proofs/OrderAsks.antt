@@ -3,7 +3,7 @@ use Rattle.std.proofs.Common.{inl, inr, true, false, ◌≡◌, ◌≢◌, ◌<�
 use Rattle.std.specs.Option.{unwrap_or}
 use Rattle.std.specs.Map.{lookup}
 use Rattle.std.specs.Ordering.{nat_cmp}
-use Rattle.std.specs.BTreeMap.{BTreeMap, is_at}
+use Rattle.std.specs.BTreeMap.{is_at}
 use Rattle.std.proofs.lemmas.Option.{same_Some}
 use Rattle.std.proofs.lemmas.Bool.{cases_lt, cases_eq}
 use Rattle.session_core.specs.declared.part.PartOrder.TheVariants.{OfSlot}
@@ -15,7 +15,7 @@ use Rattle.session_core.specs.Inner.Lane as lane
 use Rattle.session_core.specs.Inner.Lane.{In, IsOpen, IsNext, IsLinkOf}
 use Rattle.session_core.specs.Part.{have_slot}
 use Rattle.session_core.specs.Order.{Order, no_order, ordered_at, is_done, is_effective, LetsBy, OnLink, MayAskAmong, IsOf, Offers, NamesWaiting, IsOvertaken}
-use Rattle.session_core.specs.Inner.Tied.{lane_of, IsSorted, IsFirstBar, IsTied, seen, statuses}
+use Rattle.session_core.specs.Inner.Tied.{Lanes, lane_of, IsSorted, IsFirstBar, IsTied, seen, statuses}
 use Rattle.session_core.proofs.Places.{at_within, none_at}
 use Rattle.session_core.proofs.LaneStates.{lane_none}
 use Rattle.session_core.proofs.OrderTies.{slot_of_both, both_of_slot, status_part, part_status, others_ahead, none_before}
@@ -54,7 +54,7 @@ only_link : (only : Option ℕ) (link q : ℕ) (l : lane.Lane) → IsLinkOf only
 only_link None link q l is on h = absurd (is q h)
 only_link (Some k) link q l is on h = sym is.0 ∙ on
 
-pub next_may : (order : Order) (lanes : BTreeMap ℕ lane.Lane) (bars : List ℕ) (slot place link : ℕ) (only : Option ℕ) → IsTied order lanes bars → IsNext place (lane_of slot lanes) → IsLinkOf only (lane_of slot lanes) → OnLink only link
+pub next_may : (order : Order) (lanes : Lanes) (bars : List ℕ) (slot place link : ℕ) (only : Option ℕ) → IsTied order lanes bars → IsNext place (lane_of slot lanes) → IsLinkOf only (lane_of slot lanes) → OnLink only link
     → MayAskAmong have_slot place link order × IsOf slot place order
 next_may order lanes bars slot place link only t n is on =
     let l = t.lane slot in
@@ -91,7 +91,7 @@ next_may order lanes bars slot place link only t n is on =
 settled_not : (p : OrderedPart) → p.status ≡ Settled → is_effective p.status ≡ false → ⊥
 settled_not p e f = let q : true ≡ false = ap is_effective (sym e) ∙ f in cc
 
-pub asks_next : (order : Order) (lanes : BTreeMap ℕ lane.Lane) (bars : List ℕ) (slot place link : ℕ) → IsTied order lanes bars → MayAskAmong have_slot place link order → IsOf slot place order → IsNext place (lane_of slot lanes)
+pub asks_next : (order : Order) (lanes : Lanes) (bars : List ℕ) (slot place link : ℕ) → IsTied order lanes bars → MayAskAmong have_slot place link order → IsOf slot place order → IsNext place (lane_of slot lanes)
 asks_next order lanes bars slot place link t m of =
     let l = t.lane slot in
     let is = slot_is order slot place m.it of m.there in
@@ -117,7 +117,7 @@ asks_next order lanes bars slot place link t m of =
     }
 
 -- what is offered, of the one that is next
-pub next_offers : (order : Order) (lanes : BTreeMap ℕ lane.Lane) (bars : List ℕ) (slot : ℕ) (a : Askable) → IsTied order lanes bars → IsNext a.place (lane_of slot lanes) → IsLinkOf a.link (lane_of slot lanes)
+pub next_offers : (order : Order) (lanes : Lanes) (bars : List ℕ) (slot : ℕ) (a : Askable) → IsTied order lanes bars → IsNext a.place (lane_of slot lanes) → IsLinkOf a.link (lane_of slot lanes)
     → (place link : ℕ) → Offers (Some a) place link → MayAskAmong have_slot place link order × IsOf slot place order
 next_offers order lanes bars slot a t n is place link o =
     subst (λ (q : ℕ). MayAskAmong have_slot q link order × IsOf slot q order) o.0 (next_may order lanes bars slot a.place link a.link t n is o.1)
@@ -126,7 +126,7 @@ on_link : (only : Option ℕ) (link : ℕ) (l : lane.Lane) → IsLinkOf only l �
 on_link None link l is h = tt
 on_link (Some k) link l is h = is.0 ∙ h is.1.0 is.1.1
 
-pub offers_next : (order : Order) (lanes : BTreeMap ℕ lane.Lane) (bars : List ℕ) (slot : ℕ) (a : Askable) → IsTied order lanes bars → IsNext a.place (lane_of slot lanes) → IsLinkOf a.link (lane_of slot lanes)
+pub offers_next : (order : Order) (lanes : Lanes) (bars : List ℕ) (slot : ℕ) (a : Askable) → IsTied order lanes bars → IsNext a.place (lane_of slot lanes) → IsLinkOf a.link (lane_of slot lanes)
     → (place link : ℕ) → MayAskAmong have_slot place link order → IsOf slot place order → Offers (Some a) place link
 offers_next order lanes bars slot a t n is place link m of =
     let l = t.lane slot in
@@ -146,7 +146,7 @@ offers_next order lanes bars slot a t n is place link m of =
     )
 
 -- what the code reads at the place of a part that waits
-pub waiting_part : (order : Order) (lanes : BTreeMap ℕ lane.Lane) (bars : List ℕ) (slot place : ℕ) → IsTied order lanes bars → In place (lane_of slot lanes).waiting → (p : OrderedPart) × (ordered_at place order ≡ Some p) × (p.status ≡ Waits)
+pub waiting_part : (order : Order) (lanes : Lanes) (bars : List ℕ) (slot place : ℕ) → IsTied order lanes bars → In place (lane_of slot lanes).waiting → (p : OrderedPart) × (ordered_at place order ≡ Some p) × (p.status ≡ Waits)
 waiting_part order lanes bars slot place t h = let p = status_part slot place order Waits ((t.lane slot).waiting_in place h) in (p.0, p.1, p.3)
 
 pub names : (order : Order) (place : ℕ) (p : OrderedPart) (x : OrderedPart) → ordered_at place order ≡ Some p → p.status ≡ Waits → ordered_at place order ≡ Some x → NamesWaiting place x.seat order
@@ -154,7 +154,7 @@ names order place p x e waits there = (p, e, ap (λ (y : OrderedPart). y.seat) (
 
 -- ---- overtaken parts
 
-pub over_is : (order : Order) (lanes : BTreeMap ℕ lane.Lane) (bars : List ℕ) (slot place : ℕ) → IsTied order lanes bars → In place (lane_of slot lanes).waiting → place < (lane_of slot lanes).settled_end → IsOvertaken place order × IsOf slot place order
+pub over_is : (order : Order) (lanes : Lanes) (bars : List ℕ) (slot place : ℕ) → IsTied order lanes bars → In place (lane_of slot lanes).waiting → place < (lane_of slot lanes).settled_end → IsOvertaken place order × IsOf slot place order
 over_is order lanes bars slot place t h lt =
     let l = t.lane slot in
     let st = l.waiting_in place h in
@@ -179,7 +179,7 @@ over_is order lanes bars slot place t h lt =
       (it.0, it.1, it.2),
     )
 
-pub over_told : (order : Order) (lanes : BTreeMap ℕ lane.Lane) (bars : List ℕ) (slot place : ℕ) → IsTied order lanes bars → IsOvertaken place order → IsOf slot place order
+pub over_told : (order : Order) (lanes : Lanes) (bars : List ℕ) (slot place : ℕ) → IsTied order lanes bars → IsOvertaken place order → IsOf slot place order
     → In place (lane_of slot lanes).waiting × (place < (lane_of slot lanes).settled_end)
 over_told order lanes bars slot place t over of =
     let l = t.lane slot in
@@ -193,7 +193,7 @@ over_told order lanes bars slot place t over of =
 
 -- ---- bars
 
-pub first_bar_is : (order : Order) (lanes : BTreeMap ℕ lane.Lane) (bars : List ℕ) (place : ℕ) (p : OrderedPart) → IsTied order lanes bars → In place bars → ((q : ℕ) → In q bars → place ≤ q) → ordered_at place order ≡ Some p → IsFirstBar p order
+pub first_bar_is : (order : Order) (lanes : Lanes) (bars : List ℕ) (place : ℕ) (p : OrderedPart) → IsTied order lanes bars → In place bars → ((q : ℕ) → In q bars → place ≤ q) → ordered_at place order ≡ Some p → IsFirstBar p order
 first_bar_is order lanes bars place p t h first e =
     let bar = t.bar_in place h in
     let is : bar.0 ≡ p = same_Some bar.0 p (sym bar.1 ∙ e) in
@@ -207,7 +207,7 @@ first_bar_is order lanes bars place p t h first e =
 
 -- ---- an order without parts
 
-pub tied_none : (lanes : BTreeMap ℕ lane.Lane) → lanes.entries ≡ [] → IsTied no_order lanes []
+pub tied_none : (lanes : Lanes) → lanes ≡ [] → IsTied no_order lanes []
 tied_none lanes none = record {
   sorted = record {
     calls = λ at after p q lt ep eq. absurd (nothing at p ep);

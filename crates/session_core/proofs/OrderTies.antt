@@ -1,6 +1,5 @@
 -- The order of a caller, the lanes of its slots and its bars stay tied, whatever step they take together.
 use Rattle.std.proofs.Common.{inl, inr, true, false, Bool, ◌≡◌, ◌≢◌, ◌<◌, ◌≤◌, ◌+◌, ◌-◌, ◌^◌, ◌⊎◌, ℕ, List, [], ◌∷◌, length, length-append, length-drop, drop, Option, None, Some, refl, sym, ap, ◌∙◌, subst, arith}
-use Rattle.std.specs.BTreeMap.{BTreeMap}
 use Rattle.std.proofs.lemmas.List.{length-take}
 use Rattle.std.proofs.lemmas.Option.{same_Some}
 use Rattle.std.proofs.lemmas.Bool.{cases_lt, cases_eq}
@@ -15,7 +14,7 @@ use Rattle.session_core.specs.Inner.Lane as lane
 use Rattle.session_core.specs.Inner.Lane.{In, Ascends, IsOpen, IsLaneOf}
 use Rattle.session_core.specs.Part.{have_slot}
 use Rattle.session_core.specs.Order.{Order, ordered_at, is_done, is_effective, MayAskAmong, with_status}
-use Rattle.session_core.specs.Inner.Tied.{lane_of, AreSame, IsEmpty, Stepped, IsSorted, IsTied, MayChange, MayFollow, status_in, seen, statuses, entered, left, pushed, without_first, without_last}
+use Rattle.session_core.specs.Inner.Tied.{Lanes, lane_of, AreSame, IsEmpty, Stepped, IsSorted, IsTied, MayChange, MayFollow, status_in, seen, statuses, entered, left, pushed, without_first, without_last}
 use Rattle.session_core.proofs.Ascending.{same_place, in_pushed, pushed_in, in_without, without_in, ascends_pushed, ascends_without}
 use Rattle.session_core.proofs.LaneStates.{MayMove, may_become, lane_changed, lane_gone, lane_joined, lane_same, lane_freed}
 use Rattle.session_core.proofs.Places.{at_below, at_past, at_within, pushed_last, pushed_other, dropped_other, left_other, left_last, length-changed, changed_same, changed_other}
@@ -213,21 +212,21 @@ moves order place slot Settled p sorted e is may = (may.1, part_status slot plac
 moves order place slot Unsent p sorted e is may = part_status slot place order p e is ∙ ap (λ (x : OrderedPart). Some x.status) (same_Some p may.0 (sym e ∙ may.1)) ∙ ap (λ s. Some s) may.2
 
 -- so the lane of its slot may take the step
-pub becomes : (order : Order) (lanes : BTreeMap ℕ lane.Lane) (bars : List ℕ) (place slot : ℕ) (s : Status) (p : OrderedPart) → IsTied order lanes bars → ordered_at place order ≡ Some p → p.order ≡ OfSlot slot → MayChange place s order
+pub becomes : (order : Order) (lanes : Lanes) (bars : List ℕ) (place slot : ℕ) (s : Status) (p : OrderedPart) → IsTied order lanes bars → ordered_at place order ≡ Some p → p.order ≡ OfSlot slot → MayChange place s order
     → lane.MayBecome place s (lane_of slot lanes)
 becomes order lanes bars place slot s p t e is may =
     let w = at_within place order.first order.parts p e in
     may_become order.first place s (statuses slot order) (lane_of slot lanes) (t.lane slot) (moves order place slot s p t.sorted e is may) (omega (arith, w.1, t.sorted.fits))
 
 -- a lane that took a step, or is gone since it is empty
-stepped_lane : (first slot : ℕ) (step : lane.Lane → lane.Lane) (new : ℕ → Option Status) (lanes changed : BTreeMap ℕ lane.Lane) → IsLaneOf first new (step (lane_of slot lanes))
+stepped_lane : (first slot : ℕ) (step : lane.Lane → lane.Lane) (new : ℕ → Option Status) (lanes changed : Lanes) → IsLaneOf first new (step (lane_of slot lanes))
     → (lane_of slot changed ≡ step (lane_of slot lanes)) ⊎ ((lane_of slot changed ≡ lane.no_lane) × IsEmpty (step (lane_of slot lanes))) → IsLaneOf first new (lane_of slot changed)
 stepped_lane first slot step new lanes changed l h = elim h [
   | inl e ↦ subst (IsLaneOf first new) (sym e) l
   | inr f ↦ subst (IsLaneOf first new) (sym f.0) (lane_freed first new (step (lane_of slot lanes)) l f.1.0 f.1.1)
 ]
 
-pub tied_changed : (order : Order) (lanes changed : BTreeMap ℕ lane.Lane) (bars : List ℕ) (place : ℕ) (s : Status) (p : OrderedPart) → IsTied order lanes bars → ordered_at place order ≡ Some p → MayChange place s order
+pub tied_changed : (order : Order) (lanes changed : Lanes) (bars : List ℕ) (place : ℕ) (s : Status) (p : OrderedPart) → IsTied order lanes bars → ordered_at place order ≡ Some p → MayChange place s order
     → Stepped p.order (lane.with_status place s) lanes changed → IsTied (with_status place s order) changed (left place s bars)
 tied_changed order lanes changed bars place s p t e may step =
     let w = at_within place order.first order.parts p e in
@@ -278,7 +277,7 @@ tied_changed order lanes changed bars place s p t e may step =
 
 -- ---- a part that is done is forgotten, at the front or at the end
 
-pub tied_gone : (order new : Order) (lanes : BTreeMap ℕ lane.Lane) (bars : List ℕ) (place : ℕ) (p : OrderedPart) → IsTied order lanes bars → ordered_at place order ≡ Some p → is_done p.status ≡ true
+pub tied_gone : (order new : Order) (lanes : Lanes) (bars : List ℕ) (place : ℕ) (p : OrderedPart) → IsTied order lanes bars → ordered_at place order ≡ Some p → is_done p.status ≡ true
     → ordered_at place new ≡ None → ((q : ℕ) → q ≢ place → ordered_at q new ≡ ordered_at q order) → order.first ≤ new.first → (new.first ≤ place → p.status ≡ Settled → ⊥)
     → new.first + length new.parts < 2 ^ 64 → IsTied new lanes bars
 tied_gone order new lanes bars place p t e done gone other later not fits =
@@ -297,7 +296,7 @@ tied_gone order new lanes bars place p t e done gone other later not fits =
       ascends = t.ascends;
     }
 
-pub tied_forgot : (order : Order) (lanes : BTreeMap ℕ lane.Lane) (bars : List ℕ) (p : OrderedPart) → IsTied order lanes bars → ordered_at order.first order ≡ Some p → is_done p.status ≡ true → IsTied (without_first order) lanes bars
+pub tied_forgot : (order : Order) (lanes : Lanes) (bars : List ℕ) (p : OrderedPart) → IsTied order lanes bars → ordered_at order.first order ≡ Some p → is_done p.status ≡ true → IsTied (without_first order) lanes bars
 tied_forgot order lanes bars p t e done =
     let w = at_within order.first order.first order.parts p e in
     let many = length-drop 1 order.parts in
@@ -309,7 +308,7 @@ tied_forgot order lanes bars p t e done =
     (omega (arith, many, w.1, t.sorted.fits))
 
 -- the last part, which waits, is taken back
-pub tied_left : (order : Order) (lanes changed : BTreeMap ℕ lane.Lane) (bars : List ℕ) (place : ℕ) (p : OrderedPart) → IsTied order lanes bars → place + 1 ≡ order.first + length order.parts → ordered_at place order ≡ Some p → p.status ≡ Waits
+pub tied_left : (order : Order) (lanes changed : Lanes) (bars : List ℕ) (place : ℕ) (p : OrderedPart) → IsTied order lanes bars → place + 1 ≡ order.first + length order.parts → ordered_at place order ≡ Some p → p.status ≡ Waits
     → Stepped p.order (lane.with_status place Unsent) lanes changed → IsTied (without_last order) changed (left place Unsent bars)
 tied_left order lanes changed bars place p t end e waits step =
     let w = at_within place order.first order.parts p e in
@@ -327,7 +326,7 @@ tied_left order lanes changed bars place p t end e waits step =
     (omega (arith, many, w.1, t.sorted.fits))
 
 -- the same lanes in another map
-pub tied_same : (order : Order) (lanes changed : BTreeMap ℕ lane.Lane) (bars : List ℕ) → IsTied order lanes bars → AreSame lanes changed → IsTied order changed bars
+pub tied_same : (order : Order) (lanes changed : Lanes) (bars : List ℕ) → IsTied order lanes bars → AreSame lanes changed → IsTied order changed bars
 tied_same order lanes changed bars t same = record {
   sorted = t.sorted;
   lane = λ slot. subst (IsLaneOf order.first (statuses slot order)) (sym (same slot)) (t.lane slot);
@@ -338,13 +337,13 @@ tied_same order lanes changed bars t same = record {
 
 -- ---- a part joins
 
-pub joins_last : (order : Order) (lanes : BTreeMap ℕ lane.Lane) (bars : List ℕ) (slot : ℕ) → IsTied order lanes bars → lane.MayJoin (order.first + length order.parts) (lane_of slot lanes)
+pub joins_last : (order : Order) (lanes : Lanes) (bars : List ℕ) (slot : ℕ) → IsTied order lanes bars → lane.MayJoin (order.first + length order.parts) (lane_of slot lanes)
 joins_last order lanes bars slot t q h =
     let there : (s : Status) × (statuses slot order q ≡ Some s) = elim h [ inl w ↦ (Waits, (t.lane slot).waiting_in q w) | inr a ↦ (Asked (lane_of slot lanes).link, (t.lane slot).asked_in q a) ] in
     let p = status_part slot q order there.0 there.1 in
     (at_within q order.first order.parts p.0 p.1).1
 
-pub tied_pushed : (order : Order) (lanes changed : BTreeMap ℕ lane.Lane) (bars : List ℕ) (seat : Seat) (of : PartOrder) → IsTied order lanes bars → MayFollow seat.call of order
+pub tied_pushed : (order : Order) (lanes changed : Lanes) (bars : List ℕ) (seat : Seat) (of : PartOrder) → IsTied order lanes bars → MayFollow seat.call of order
     → order.first + length order.parts + 1 < 2 ^ 64 → Stepped of (lane.joined (order.first + length order.parts)) lanes changed
     → IsTied (pushed seat of order) changed (entered of (order.first + length order.parts) bars)
 tied_pushed order lanes changed bars seat of t may bound step =

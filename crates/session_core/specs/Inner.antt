@@ -1,4 +1,5 @@
 pub mod Ready
 pub mod Heard
 pub mod Lane
+pub mod Lone
 pub mod Tied

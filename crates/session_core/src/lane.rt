@@ -10,7 +10,7 @@ ghost use Rattle.session_core.specs.declared.ordered_part.Status.TheVariants.{Wa
 ghost use Rattle.session_core.specs.Inner.Lane.{In, no_lane, joined, with_status, MayJoin, MayBecome, IsFirst, IsNext, IsLinkOf};
 ghost use Rattle.session_core.specs.Inner.Tied.{IsEmpty};
 
-use crate::ordered_part::{FEW, Status};
+use crate::ordered_part::Status;
 use crate::sorted_places::{move_before, put_place, take_first, take_place};
 use std::alloc::{AllocError, Global};
 use std::collections::VecDeque;
@@ -72,24 +72,6 @@ impl Lane {
             settled_end: 0,
             link: 0,
         }
-    }
-
-    /// Makes it a lane without parts. It keeps its memory.
-    pub(crate) fn clear(&mut self)
-        ensures { self.new ≡ no_lane }
-    {
-        self.refused.clear();
-        self.later.clear();
-        self.asked.clear();
-        self.settled_end = 0;
-        self.link = 0;
-    }
-
-    /// Whether it has room for few parts at most.
-    pub(crate) fn is_small(&self) -> bool {
-        self.refused.capacity() <= FEW
-            && self.later.capacity() <= FEW
-            && self.asked.capacity() <= FEW
     }
 
     /// Whether no part waits, and none is on its way.

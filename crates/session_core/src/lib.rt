@@ -14,6 +14,8 @@ mod lane;
 mod lanes;
 mod laws;
 mod link;
+mod lone_part;
+mod open_parts;
 mod order;
 mod ordered_part;
 mod ordered_parts;

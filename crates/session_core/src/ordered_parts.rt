@@ -1,4 +1,4 @@
-//! The parts of one caller, in the order of its calls and in the lanes of their slots.
+//! The parts of one caller, in the order of its calls and by slot.
 
 ghost use Rattle.std.specs.Prelude.{◌≡◌, ◌+◌, ◌-◌, ◌<◌, ◌^◌, ℕ, Option, None, Some, OnOk, OnErr, IfSome, IfNone, length};
 ghost use Rattle.session_core.specs.declared.ordered_part.OrderedPart.{OrderedPart};
@@ -9,23 +9,21 @@ ghost use Rattle.session_core.specs.Order.{no_order, ordered_at, MayAskAmong, Is
 ghost use Rattle.session_core.specs.Inner.Lane.{Ascends};
 ghost use Rattle.session_core.specs.Inner.Tied.{IsSorted, IsBar, IsFirstBar, MayChange, entered, left, without_first, without_last, pushed, MayFollow, IsFirstOver, IsLastOpen};
 
-use crate::lanes;
-use crate::lanes::{Lanes, SpareLane};
+use crate::open_parts::OpenParts;
 use crate::ordered_part::{Askable, FEW, OrderedPart, Overtaken, Seat, Status};
 use crate::part::PartOrder;
 use crate::sorted_places::take_place;
 use std::alloc::{AllocError, Global};
-use std::collections::{BTreeMap, VecDeque};
+use std::collections::VecDeque;
 use std::marker::Model;
 
-/// The parts of one caller in the order of its calls. An open part of a slot also stands in the lane of
-/// the slot.
+/// The parts of one caller in the order of its calls. An open part of a slot also stands with those of
+/// its slot.
 #[derive(Drop)]
 pub(crate) struct OrderedParts {
     first: u64,
     parts: VecDeque<OrderedPart>,
-    lanes: Lanes,
-    spare: SpareLane,
+    open_parts: OpenParts,
     /// The places of the parts without a slot that are not done.
     bars: VecDeque<u64>,
 }
@@ -38,7 +36,7 @@ impl Model for OrderedParts {
 
     ghost view = { λ s. record { first = s.first; parts = s.parts.items } };
 
-    ghost invariant = { λ s. IsTied (record { first = s.first; parts = s.parts.items }) s.lanes s.bars.items };
+    ghost invariant = { λ s. IsTied (record { first = s.first; parts = s.parts.items }) s.open_parts s.bars.items };
 }
 
 impl OrderedParts {
@@ -48,8 +46,7 @@ impl OrderedParts {
         OrderedParts {
             first: 0,
             parts: VecDeque::new(alloc),
-            lanes: BTreeMap::new(alloc),
-            spare: None,
+            open_parts: OpenParts::new(alloc),
             bars: VecDeque::new(alloc),
         }
     }
@@ -60,7 +57,7 @@ impl OrderedParts {
     {
         self.first = 0;
         self.parts.clear();
-        lanes::clear(&mut self.lanes);
+        self.open_parts.clear();
         self.bars.clear();
     }
 
@@ -120,7 +117,7 @@ impl OrderedParts {
         }
         self.parts.reserve(1)?;
         enter_bars(&mut self.bars, order, place)?;
-        lanes::join(alloc, &mut self.lanes, &mut self.spare, order, place)?;
+        self.open_parts.join(alloc, order, place)?;
         let status = Status::Waits;
         self.parts.push_back_reserved(OrderedPart {
             seat,
@@ -138,13 +135,7 @@ impl OrderedParts {
         let last = self.parts.len() - 1;
         let order = self.parts[last].order;
         let place = self.first + last as u64;
-        lanes::change(
-            &mut self.lanes,
-            &mut self.spare,
-            order,
-            place,
-            Status::Unsent,
-        );
+        self.open_parts.change(order, place, Status::Unsent);
         leave_bars(&mut self.bars, place, Status::Unsent);
         self.parts.truncate(last);
     }
@@ -157,7 +148,7 @@ impl OrderedParts {
     {
         let index = (place - self.first) as usize;
         let order = self.parts[index].order;
-        lanes::change(&mut self.lanes, &mut self.spare, order, place, status);
+        self.open_parts.change(order, place, status);
         leave_bars(&mut self.bars, place, status);
         mark(&mut self.parts, index, status);
     }
@@ -180,7 +171,7 @@ impl OrderedParts {
         ensures seat { IfSome result (λ askable. NamesWaiting askable.place askable.seat self.now) }
         ensures sorted { IsSorted self.now }
     {
-        let Some(next) = lanes::askable(&self.lanes, slot) else {
+        let Some(next) = self.open_parts.askable(slot) else {
             return None;
         };
         let seat = self.parts[(next.place - self.first) as usize].seat;
@@ -198,7 +189,7 @@ impl OrderedParts {
         ensures seat { IfSome result (λ overtaken. NamesWaiting overtaken.place overtaken.seat self.now) }
         ensures none { IfNone result ((place : ℕ) → IsOvertaken place self.now → IsOf slot place self.now → ⊥) }
     {
-        let Some(place) = lanes::overtaken(&self.lanes, slot) else {
+        let Some(place) = self.open_parts.overtaken(slot) else {
             return None;
         };
         let seat = self.parts[(place - self.first) as usize].seat;

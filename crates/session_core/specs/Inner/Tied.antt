@@ -2,7 +2,8 @@
 use Rattle.std.specs.Prelude.{◌≡◌, ◌+◌, ◌-◌, ◌^◌, ◌<◌, ◌≤◌, ◌++◌, ◌==◌, ◌⊎◌, ℕ, true, false, if◌then◌else◌, List, [], ◌∷◌, length, take, drop, Option, None, Some, slice_get}
 use Rattle.std.specs.Option.{unwrap_or}
 use Rattle.std.specs.Ordering.{nat_cmp}
-use Rattle.std.specs.BTreeMap.{BTreeMap, get}
+use Rattle.std.specs.Map.{lookup}
+use Rattle.std.specs.BTreeMap.{is_at}
 use Rattle.session_core.specs.declared.part.PartOrder.{PartOrder}
 use Rattle.session_core.specs.declared.part.PartOrder.TheVariants.{OfSlot, Whole, Free}
 use Rattle.session_core.specs.declared.ordered_part.OrderedPart.{OrderedPart}
@@ -14,19 +15,23 @@ use Rattle.session_core.specs.Inner.Lane.{In, Ascends, IsLaneOf}
 use Rattle.session_core.specs.Part.{have_slot}
 use Rattle.session_core.specs.Order.{Order, ordered_at, MayAskAmong, IsWaiting, IsOnItsWay, is_done, is_effective}
 
--- the lane of a slot, which has no open parts if the map has none
-abbrev pub lane_of : ℕ → BTreeMap ℕ lane.Lane → lane.Lane
-lane_of slot lanes = unwrap_or (get nat_cmp lanes slot) lane.no_lane
+-- lanes with their slots
+abbrev pub Lanes : Type 0
+Lanes = List (ℕ × lane.Lane)
+
+-- the lane of a slot, which has no open parts if it is not there
+abbrev pub lane_of : ℕ → Lanes → lane.Lane
+lane_of slot lanes = unwrap_or (lookup (is_at (nat_cmp slot)) lanes) lane.no_lane
 
 -- each lane is the same
-abbrev pub AreSame : BTreeMap ℕ lane.Lane → BTreeMap ℕ lane.Lane → Type 0
+abbrev pub AreSame : Lanes → Lanes → Type 0
 AreSame old new = (slot : ℕ) → lane_of slot new ≡ lane_of slot old
 
 abbrev pub IsEmpty : lane.Lane → Type 0
 IsEmpty l = (l.waiting ≡ []) × (l.asked ≡ [])
 
 -- The lane of this slot, if the order has one, took a step, and is gone if it is empty. The others did not.
-pub record Stepped (order : PartOrder) (step : lane.Lane → lane.Lane) (old new : BTreeMap ℕ lane.Lane) : Type 0 where
+pub record Stepped (order : PartOrder) (step : lane.Lane → lane.Lane) (old new : Lanes) : Type 0 where
   pub here : (slot : ℕ) → order ≡ OfSlot slot → (lane_of slot new ≡ step (lane_of slot old))
       ⊎ ((lane_of slot new ≡ lane.no_lane) × IsEmpty (step (lane_of slot old)))
   pub others : (slot : ℕ) → (order ≡ OfSlot slot → ⊥) → lane_of slot new ≡ lane_of slot old
@@ -64,7 +69,7 @@ pub record IsFirstBar (bar : OrderedPart) (order : Order) : Type 0 where
   pub not_done : is_done bar.status ≡ false
   pub first : (at : ℕ) → IsBar at order → place ≤ at
 
-pub record IsTied (order : Order) (lanes : BTreeMap ℕ lane.Lane) (bars : List ℕ) : Type 0 where
+pub record IsTied (order : Order) (lanes : Lanes) (bars : List ℕ) : Type 0 where
   pub sorted : IsSorted order
   pub lane : (slot : ℕ) → IsLaneOf order.first (statuses slot order) (lane_of slot lanes)
   pub bar_in : (q : ℕ) → In q bars → IsBar q order

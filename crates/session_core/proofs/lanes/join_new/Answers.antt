@@ -9,4 +9,4 @@ returns-in_err-insert-clause-err c = same_entries c.args.lanes.now c.insert.new.
 pub returns-clause-joined : goal.returns-clause-joined
 returns-clause-joined c =
     stepped_by c.args.slot (joined c.args.place) c.join.new.self c.args.lanes.now c.insert.new.self c.in_ok-insert.ensures.updates
-    (c.in_ok-join.ensures.joined ∙ ap (joined c.args.place) (c.new_lane-lane.ensures ∙ sym (lane_missing c.args.slot c.args.lanes.now (sym c.requires))))
+    (c.in_ok-join.ensures.joined ∙ ap (joined c.args.place) (c.new-lane.ensures ∙ sym (lane_missing c.args.slot c.args.lanes.now (sym c.requires))))

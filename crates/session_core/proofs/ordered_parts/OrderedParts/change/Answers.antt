@@ -25,7 +25,7 @@ change-requires c = λ slot is.
     let s = c.self.inside in
     let w = inside c.args.place c.args.status (record { first = s.first; parts = s.parts.items }) c.args.self.now c.self.view_is c.requires in
     let may : MayChange c.args.place c.args.status (record { first = s.first; parts = s.parts.items }) = subst (MayChange c.args.place c.args.status) (sym c.self.view_is) c.requires in
-    becomes (record { first = s.first; parts = s.parts.items }) s.lanes s.bars.items c.args.place slot c.args.status c.index.result.now c.self.invariant (at_read c.args.place s.first s.parts.items c.index.result.now w.0 w.1 c.index.ensures) is may
+    becomes (record { first = s.first; parts = s.parts.items }) s.open_parts s.bars.items c.args.place slot c.args.status c.index.result.now c.self.invariant (at_read c.args.place s.first s.parts.items c.index.result.now w.0 w.1 c.index.ensures) is may
 
 pub mark-requires : goal.mark-requires
 mark-requires c = let s = c.self.inside in let w = inside c.args.place c.args.status (record { first = s.first; parts = s.parts.items }) c.args.self.now c.self.view_is c.requires in omega (arith, w.1)
@@ -35,6 +35,6 @@ invariant_of-self c =
     let s = c.self.inside in
     let w = inside c.args.place c.args.status (record { first = s.first; parts = s.parts.items }) c.args.self.now c.self.view_is c.requires in
     let may : MayChange c.args.place c.args.status (record { first = s.first; parts = s.parts.items }) = subst (MayChange c.args.place c.args.status) (sym c.self.view_is) c.requires in
-    subst (λ (ps : List OrderedPart). IsTied (record { first = s.first; parts = ps }) c.change.new.lanes c.leave_bars.new.bars.items) (sym c.mark.ensures)
-    (subst (λ (ns : List ℕ). IsTied (with_status c.args.place c.args.status (record { first = s.first; parts = s.parts.items })) c.change.new.lanes ns) (sym c.leave_bars.ensures)
-    (tied_changed (record { first = s.first; parts = s.parts.items }) s.lanes c.change.new.lanes s.bars.items c.args.place c.args.status c.index.result.now c.self.invariant (at_read c.args.place s.first s.parts.items c.index.result.now w.0 w.1 c.index.ensures) may c.change.ensures))
+    subst (λ (ps : List OrderedPart). IsTied (record { first = s.first; parts = ps }) c.change.new.self c.leave_bars.new.bars.items) (sym c.mark.ensures)
+    (subst (λ (ns : List ℕ). IsTied (with_status c.args.place c.args.status (record { first = s.first; parts = s.parts.items })) c.change.new.self ns) (sym c.leave_bars.ensures)
+    (tied_changed (record { first = s.first; parts = s.parts.items }) s.open_parts c.change.new.self s.bars.items c.args.place c.args.status c.index.result.now c.self.invariant (at_read c.args.place s.first s.parts.items c.index.result.now w.0 w.1 c.index.ensures) may c.change.ensures))

@@ -34,5 +34,5 @@ returns-clause-bar c =
     let w = at_within c.in-Some.place.now s.first s.parts.items bar.0 bar.1 in
     let inside : c.in-Some.place.now - s.first < length s.parts.items = omega (arith, w.0, w.1) in
     subst (IsFirstBar c.index.result.now) c.self.view_is
-    (first_bar_is (record { first = s.first; parts = s.parts.items }) s.lanes s.bars.items c.in-Some.place.now c.index.result.now t there (λ q h. least s.bars.items c.in-Some.place.now q t.ascends c.in-Some.ensures.lookup h)
+    (first_bar_is (record { first = s.first; parts = s.parts.items }) s.open_parts s.bars.items c.in-Some.place.now c.index.result.now t there (λ q h. least s.bars.items c.in-Some.place.now q t.ascends c.in-Some.ensures.lookup h)
     (at_read c.in-Some.place.now s.first s.parts.items c.index.result.now w.0 inside c.index.ensures))

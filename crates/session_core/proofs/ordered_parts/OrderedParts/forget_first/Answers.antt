@@ -16,5 +16,5 @@ pub invariant_of-self : goal.invariant_of-self
 invariant_of-self c =
     let s = c.self.inside in
     let over : IsFirstOver (record { first = s.first; parts = s.parts.items }) = subst IsFirstOver (sym c.self.view_is) c.requires in
-    subst (λ (ps : List OrderedPart). IsTied (record { first = s.first + 1; parts = ps }) s.lanes s.bars.items) (sym c.pop_front.ensures.rest)
-    (tied_forgot (record { first = s.first; parts = s.parts.items }) s.lanes s.bars.items over.0 c.self.invariant over.1 over.2)
+    subst (λ (ps : List OrderedPart). IsTied (record { first = s.first + 1; parts = ps }) s.open_parts s.bars.items) (sym c.pop_front.ensures.rest)
+    (tied_forgot (record { first = s.first; parts = s.parts.items }) s.open_parts s.bars.items over.0 c.self.invariant over.1 over.2)

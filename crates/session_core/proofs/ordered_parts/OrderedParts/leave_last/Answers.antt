@@ -45,13 +45,13 @@ pub change-requires : goal.change-requires
 change-requires c = λ slot is.
     let s = c.self.inside in
     let r = seen (record { first = s.first; parts = s.parts.items }) c.args.self.now (c.len-last.result - 1) c.index.result.now c.self.view_is c.requires (omega (arith, c.len-last.ensures)) c.index.ensures in
-    becomes (record { first = s.first; parts = s.parts.items }) s.lanes s.bars.items (s.first + (c.len-last.result - 1)) slot Unsent c.index.result.now c.self.invariant r.there is (c.index.result.now, r.there, r.waits)
+    becomes (record { first = s.first; parts = s.parts.items }) s.open_parts s.bars.items (s.first + (c.len-last.result - 1)) slot Unsent c.index.result.now c.self.invariant r.there is (c.index.result.now, r.there, r.waits)
 
 pub invariant_of-self : goal.invariant_of-self
 invariant_of-self c =
     let s = c.self.inside in
     let is : c.len-last.result - 1 ≡ length s.parts.items - 1 = omega (arith, c.len-last.ensures) in
     let r = seen (record { first = s.first; parts = s.parts.items }) c.args.self.now (c.len-last.result - 1) c.index.result.now c.self.view_is c.requires is c.index.ensures in
-    subst (λ (ps : List OrderedPart). IsTied (record { first = s.first; parts = ps }) c.change.new.lanes c.leave_bars.new.bars.items) (sym (c.truncate.ensures.items ∙ ap (λ n. take n s.parts.items) is))
-    (subst (λ (ns : List ℕ). IsTied (record { first = s.first; parts = take (length s.parts.items - 1) s.parts.items }) c.change.new.lanes ns) (sym c.leave_bars.ensures)
-    (tied_left (record { first = s.first; parts = s.parts.items }) s.lanes c.change.new.lanes s.bars.items (s.first + (c.len-last.result - 1)) c.index.result.now c.self.invariant r.end r.there r.waits c.change.ensures))
+    subst (λ (ps : List OrderedPart). IsTied (record { first = s.first; parts = ps }) c.change.new.self c.leave_bars.new.bars.items) (sym (c.truncate.ensures.items ∙ ap (λ n. take n s.parts.items) is))
+    (subst (λ (ns : List ℕ). IsTied (record { first = s.first; parts = take (length s.parts.items - 1) s.parts.items }) c.change.new.self ns) (sym c.leave_bars.ensures)
+    (tied_left (record { first = s.first; parts = s.parts.items }) s.open_parts c.change.new.self s.bars.items (s.first + (c.len-last.result - 1)) c.index.result.now c.self.invariant r.end r.there r.waits c.change.ensures))

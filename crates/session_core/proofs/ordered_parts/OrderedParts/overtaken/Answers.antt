@@ -7,13 +7,13 @@ use Rattle.session_core.proofs.ordered_parts.OrderedParts.overtaken.Goals as goa
 pub overflow_sub-place : goal.overflow_sub-place
 overflow_sub-place c =
     let s = c.self.inside in
-    let p = waiting_part (record { first = s.first; parts = s.parts.items }) s.lanes s.bars.items c.args.slot c.in-Some.place c.self.invariant c.in-Some.ensures.overtaken.0 in
+    let p = waiting_part (record { first = s.first; parts = s.parts.items }) s.open_parts s.bars.items c.args.slot c.in-Some.place c.self.invariant c.in-Some.ensures.overtaken.0 in
     (at_within c.in-Some.place s.first s.parts.items p.0 p.1).0
 
 pub index-requires : goal.index-requires
 index-requires c =
     let s = c.self.inside in
-    let p = waiting_part (record { first = s.first; parts = s.parts.items }) s.lanes s.bars.items c.args.slot c.in-Some.place c.self.invariant c.in-Some.ensures.overtaken.0 in
+    let p = waiting_part (record { first = s.first; parts = s.parts.items }) s.open_parts s.bars.items c.args.slot c.in-Some.place c.self.invariant c.in-Some.ensures.overtaken.0 in
     let w = at_within c.in-Some.place s.first s.parts.items p.0 p.1 in
     omega (arith, w.0, w.1)
 
@@ -22,7 +22,7 @@ returns-in_default-clause-none c =
     let s = c.self.inside in
     subst (λ (o : Order). (place : ℕ) → IsOvertaken place o → IsOf c.args.slot place o → ⊥) c.self.view_is
     (λ place over of.
-    let told = over_told (record { first = s.first; parts = s.parts.items }) s.lanes s.bars.items c.args.slot place c.self.invariant over of in
+    let told = over_told (record { first = s.first; parts = s.parts.items }) s.open_parts s.bars.items c.args.slot place c.self.invariant over of in
     let le = c.in_default.ensures.none place told.0 in
     omega (arith, told.1, le))
 
@@ -30,12 +30,12 @@ pub returns-clause-overtaken : goal.returns-clause-overtaken
 returns-clause-overtaken c =
     let s = c.self.inside in
     subst (λ (o : Order). IsOvertaken c.in-Some.place o × IsOf c.args.slot c.in-Some.place o) c.self.view_is
-    (over_is (record { first = s.first; parts = s.parts.items }) s.lanes s.bars.items c.args.slot c.in-Some.place c.self.invariant c.in-Some.ensures.overtaken.0 c.in-Some.ensures.overtaken.1)
+    (over_is (record { first = s.first; parts = s.parts.items }) s.open_parts s.bars.items c.args.slot c.in-Some.place c.self.invariant c.in-Some.ensures.overtaken.0 c.in-Some.ensures.overtaken.1)
 
 pub returns-clause-seat : goal.returns-clause-seat
 returns-clause-seat c =
     let s = c.self.inside in
-    let p = waiting_part (record { first = s.first; parts = s.parts.items }) s.lanes s.bars.items c.args.slot c.in-Some.place c.self.invariant c.in-Some.ensures.overtaken.0 in
+    let p = waiting_part (record { first = s.first; parts = s.parts.items }) s.open_parts s.bars.items c.args.slot c.in-Some.place c.self.invariant c.in-Some.ensures.overtaken.0 in
     let w = at_within c.in-Some.place s.first s.parts.items p.0 p.1 in
     let inside : c.in-Some.place - s.first < length s.parts.items = omega (arith, w.0, w.1) in
     subst (NamesWaiting c.in-Some.place c.index.result.now.seat) c.self.view_is

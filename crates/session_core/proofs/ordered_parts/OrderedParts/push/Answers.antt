@@ -16,14 +16,14 @@ pub join-requires : goal.join-requires
 join-requires c = λ slot is.
     let s = c.self.inside in
     let end : c.end-place.result ≡ s.first + length s.parts.items = c.end-place.ensures.end ∙ sym (ap (λ (o : Order). o.first + length o.parts) c.self.view_is) in
-    subst (λ (n : ℕ). MayJoin n (lane_of slot s.lanes)) (sym end) (joins_last (record { first = s.first; parts = s.parts.items }) s.lanes s.bars.items slot c.self.invariant)
+    subst (λ (n : ℕ). MayJoin n (lane_of slot s.open_parts)) (sym end) (joins_last (record { first = s.first; parts = s.parts.items }) s.open_parts s.bars.items slot c.self.invariant)
 
 pub invariant_of-self-in_err-join : goal.invariant_of-self-in_err-join
 invariant_of-self-in_err-join c =
     let s = c.self.inside in
-    subst (λ (ps : List OrderedPart). IsTied (record { first = s.first; parts = ps }) c.join.new.lanes c.enter_bars.new.bars.items) (sym c.reserve.ensures.items)
-    (subst (λ (ns : List ℕ). IsTied (record { first = s.first; parts = s.parts.items }) c.join.new.lanes ns) (sym (c.in_ok-enter_bars.ensures.entered ∙ same_bars c.args.order c.end-place.result s.bars.items c.in_err-join.ensures.slot))
-    (tied_same (record { first = s.first; parts = s.parts.items }) s.lanes c.join.new.lanes s.bars.items c.self.invariant c.in_err-join.ensures.err))
+    subst (λ (ps : List OrderedPart). IsTied (record { first = s.first; parts = ps }) c.join.new.self c.enter_bars.new.bars.items) (sym c.reserve.ensures.items)
+    (subst (λ (ns : List ℕ). IsTied (record { first = s.first; parts = s.parts.items }) c.join.new.self ns) (sym (c.in_ok-enter_bars.ensures.entered ∙ same_bars c.args.order c.end-place.result s.bars.items c.in_err-join.ensures.slot))
+    (tied_same (record { first = s.first; parts = s.parts.items }) s.open_parts c.join.new.self s.bars.items c.self.invariant c.in_err-join.ensures.err))
 
 pub invariant_of-self-2 : goal.invariant_of-self-2
 invariant_of-self-2 c =
@@ -31,7 +31,7 @@ invariant_of-self-2 c =
     let t = c.self.invariant in
     let may : MayFollow c.args.seat.call c.args.order (record { first = s.first; parts = s.parts.items }) = subst (MayFollow c.args.seat.call c.args.order) (sym c.self.view_is) c.requires in
     let end : c.end-place.result ≡ s.first + length s.parts.items = c.end-place.ensures.end ∙ sym (ap (λ (o : Order). o.first + length o.parts) c.self.view_is) in
-    let step = subst (λ (n : ℕ). Stepped c.args.order (joined n) s.lanes c.join.new.lanes) end c.in_ok-join.ensures.joined in
-    let tied = tied_pushed (record { first = s.first; parts = s.parts.items }) s.lanes c.join.new.lanes s.bars.items c.args.seat c.args.order t may (omega (arith, c.if-place.false, end, t.sorted.fits)) step in
-    subst (λ (ps : List OrderedPart). IsTied (record { first = s.first; parts = ps }) c.join.new.lanes c.enter_bars.new.bars.items) (sym (c.push_back_reserved.ensures.items ∙ ap (λ (ps : List OrderedPart). ps ++ record { seat = c.args.seat; order = c.args.order; status = Waits } ∷ []) c.reserve.ensures.items))
-    (subst (λ (ns : List ℕ). IsTied (pushed c.args.seat c.args.order (record { first = s.first; parts = s.parts.items })) c.join.new.lanes ns) (sym (c.in_ok-enter_bars.ensures.entered ∙ ap (λ n. entered c.args.order n s.bars.items) end)) tied)
+    let step = subst (λ (n : ℕ). Stepped c.args.order (joined n) s.open_parts c.join.new.self) end c.in_ok-join.ensures.joined in
+    let tied = tied_pushed (record { first = s.first; parts = s.parts.items }) s.open_parts c.join.new.self s.bars.items c.args.seat c.args.order t may (omega (arith, c.if-place.false, end, t.sorted.fits)) step in
+    subst (λ (ps : List OrderedPart). IsTied (record { first = s.first; parts = ps }) c.join.new.self c.enter_bars.new.bars.items) (sym (c.push_back_reserved.ensures.items ∙ ap (λ (ps : List OrderedPart). ps ++ record { seat = c.args.seat; order = c.args.order; status = Waits } ∷ []) c.reserve.ensures.items))
+    (subst (λ (ns : List ℕ). IsTied (pushed c.args.seat c.args.order (record { first = s.first; parts = s.parts.items })) c.join.new.self ns) (sym (c.in_ok-enter_bars.ensures.entered ∙ ap (λ n. entered c.args.order n s.bars.items) end)) tied)

@@ -1,7 +1,7 @@
 use Rattle.std.proofs.Common.{subst}
 use Rattle.session_core.specs.Inner.Lane.{MayJoin}
 use Rattle.session_core.proofs.LaneMaps.{lane_there, stepped_joined, same_joined}
-use Rattle.session_core.proofs.lanes.join_slot.Goals as goal
+use Rattle.session_core.proofs.lanes.join.Goals as goal
 
 pub join-requires : goal.join-requires
 join-requires c = subst (MayJoin c.args.place) (lane_there c.args.slot c.args.lanes.now c.in-Some.lane.now c.in-Some.ensures.value) c.requires
