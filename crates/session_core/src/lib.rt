@@ -29,3 +29,4 @@ pub use order::CallerOrder;
 pub use ordered_part::{Askable, OrderedPart, Overtaken, Seat, Status};
 pub use part::{Cause, PartOrder};
 pub use promises::{answered, ended, given_up, in_order, in_turn, mine, once, single, told};
+pub use sorted_places::take_place;

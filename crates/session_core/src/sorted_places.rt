@@ -7,7 +7,7 @@ ghost use Rattle.session_core.specs.Inner.Lane.{In, Ascends, without, with_place
 use std::collections::VecDeque;
 
 /// Takes a place out, if it is there.
-pub(crate) fn take_place(places: &mut VecDeque<u64>, place: u64)
+pub fn take_place(places: &mut VecDeque<u64>, place: u64)
     requires { Ascends places.old.items }
     ensures items { places.new.items ≡ without place places.old.items }
     ensures capacity { deque_capacity places.new ≡ deque_capacity places.old }

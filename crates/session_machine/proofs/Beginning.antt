@@ -7,8 +7,6 @@ use Rattle.session_core.specs.declared.ordered_part.OrderedPart.{OrderedPart}
 use Rattle.session_core.specs.declared.part.PartOrder.{PartOrder}
 use Rattle.session_core.specs.Order.{Order, MayJoin, joined, waiting_parts}
 use Rattle.session_core.specs.Part.{PartState, is_waiting}
-use Rattle.std.specs.Ordering.{nat_cmp}
-use Rattle.std.specs.BTreeSet.{Updates}
 use Rattle.session_core.specs.State.{State, CallState, Begin, begun, AreApart, Has, May, Happens, after}
 use Rattle.session_core.proofs.AfterEvents.{has_begun, call_new}
 use Rattle.session_core.proofs.OrderJoins.{length-waiting}
@@ -16,7 +14,7 @@ use Rattle.session_core.proofs.PlaceLists.{get_pushed, get_pushed_last, get_befo
 use Rattle.session_machine.specs.declared.caller.CallPlaces.{CallPlaces}
 use Rattle.session_machine.specs.declared.callers.Callers.{Callers}
 use Rattle.session_machine.specs.Callers.{order_of, owed_of, last_of, OthersKept, CallsKept}
-use Rattle.session_machine.specs.Ties.{AreTied, AreOwed, AreOrdered, AreFree, is_ordered, end_of}
+use Rattle.session_machine.specs.Ties.{Owes, AreTied, AreOwed, AreOrdered, AreFree, is_ordered, end_of}
 use Rattle.session_machine.proofs.Ties.Tied.{tied_orders}
 use Rattle.session_machine.proofs.Ties.Begins.{orders_of, began_cases, may_join, tied_began, tied_began_free}
 use Rattle.session_machine.proofs.Ties.Owed.{IsHeld, held_before, owed_began, owed_same}
@@ -123,7 +121,7 @@ begin_happens s now call caller parts calls e is wait apart calls_are = subst (�
 module _ {places : List CallPlaces} {callers : Callers} {began : ℕ} (s : State) (k : IsKept s places callers began) (call caller : ℕ) (parts : List PartState) (at : CallPlaces) (new : Callers) (calls : List CallState)
     (is : call ≡ begun s) (wait : list_all (λ p. is_waiting p.phase) parts ≡ true) (apart : AreApart parts) (alike : AreAlike parts) (requests : HaveRequests parts)
     (caller_at : at.caller ≡ caller) (order_at : at.order ≡ end_of (order_of caller callers))
-    (joins_as : order_of caller new ≡ joined call (ordered_of parts) (order_of caller callers)) (owes_as : Updates nat_cmp (owed_of caller callers) (owed_of caller new) call true) (last_is : last_of caller new ≡ Some call) (kept : OthersKept caller callers new)
+    (joins_as : order_of caller new ≡ joined call (ordered_of parts) (order_of caller callers)) (owes_as : Owes (owed_of caller callers) (owed_of caller new) call true) (last_is : last_of caller new ≡ Some call) (kept : OthersKept caller callers new)
     (calls_are : calls ≡ s.calls ++ begun_call caller parts ∷ []) where
   may : May (Begin call caller parts) s
   may = (is, wait, apart)

@@ -5,14 +5,12 @@ use Rattle.std.proofs.lemmas.Bool.{false≢true, cases_eq}
 use Rattle.std.proofs.lemmas.Option.{same_Some}
 use Rattle.session_core.specs.Channel.{Channel}
 use Rattle.session_core.specs.Part.{is_waiting}
-use Rattle.std.specs.Ordering.{nat_cmp}
-use Rattle.std.specs.BTreeSet.{Updates}
 use Rattle.session_core.specs.State.{State, CallState, Event, Finish, numbered, call_at, call_after, link_after, IsTurn, MayFinish, Happens}
 use Rattle.session_core.proofs.AfterEvents.{numbered_same, length-numbered}
 use Rattle.session_machine.specs.declared.caller.CallPlaces.{CallPlaces}
 use Rattle.session_machine.specs.declared.callers.Callers.{Callers}
 use Rattle.session_machine.specs.Callers.{order_of, owed_of, OthersKept, OnlyOwed}
-use Rattle.session_machine.specs.Ties.{IsFirstOwed, is_owed, end_of}
+use Rattle.session_machine.specs.Ties.{Owes, IsFirstOwed, is_owed, end_of}
 use Rattle.session_machine.proofs.Ties.Links.{tied_quiet}
 use Rattle.session_machine.proofs.Ties.Owed.{IsHeld, held_of, turn_by, turn_is_first, owed_finished}
 use Rattle.session_machine.specs.Calls.{with_call, replied}
@@ -48,7 +46,7 @@ module _ {places : List CallPlaces} {callers : Callers} {began : ℕ} (s : State
         ∙ ap (state_of (numbered (link_after (Finish call state)) 0 s.links) s.first) (calls_are ∙ replied_calls call s.first state s.calls);
   })
 
-  pub finish_kept : (new : Callers) → Updates nat_cmp (owed_of state.caller callers) (owed_of state.caller new) call false
+  pub finish_kept : (new : Callers) → Owes (owed_of state.caller callers) (owed_of state.caller new) call false
       → OnlyOwed state.caller callers new → IsKept (state_of s.links s.first calls) places new began
   finish_kept new owed only =
       let held : IsHeld s state.caller call = record { state = state; call_is = call_is; caller_is = refl; wanted = wanted } in

@@ -8,15 +8,13 @@ use Rattle.session_core.specs.declared.part.PartOrder.{PartOrder}
 use Rattle.session_core.specs.declared.part.PartOrder.TheVariants.{Free}
 use Rattle.session_core.specs.Order.{Order}
 use Rattle.session_core.specs.Part.{PartState}
-use Rattle.std.specs.Ordering.{nat_cmp}
-use Rattle.std.specs.BTreeSet.{BTreeSet, Updates}
 use Rattle.session_core.specs.State.{State, CallState, GiveUp, begun, numbered, call_at, call_after, link_after, Has, Happens}
 use Rattle.session_core.proofs.AfterEvents.{seen, has_begun, length-numbered}
 use Rattle.session_core.proofs.PlaceLists.{at_index}
 use Rattle.session_machine.specs.declared.caller.CallPlaces.{CallPlaces}
 use Rattle.session_machine.specs.declared.callers.Callers.{Callers}
 use Rattle.session_machine.specs.Callers.{order_of, owed_of, OnlyOwed}
-use Rattle.session_machine.specs.Ties.{AreTied, OrderGoes, given_up, is_ordered, is_owed, end_of}
+use Rattle.session_machine.specs.Ties.{Owes, AreTied, OrderGoes, given_up, is_ordered, is_owed, end_of}
 use Rattle.session_machine.proofs.Ties.GiveUps.{call_within, tied_given_up, gave_up_free, all_free}
 use Rattle.session_machine.proofs.Ties.Owed.{IsHeld, owed_given_up}
 use Rattle.session_machine.specs.Calls as calls
@@ -102,13 +100,13 @@ module _ {places : List CallPlaces} {callers : Callers} {began : ℕ} (s : State
 
   pub give_kept : (after_calls : List CallState) (mid new : Callers) → state.is_wanted ≡ true
       → after_calls ≡ with_call call s.first calls.given_up s.calls → CallGoes state.caller place count order callers mid
-      → Updates nat_cmp (owed_of state.caller mid) (owed_of state.caller new) call false
+      → Owes (owed_of state.caller mid) (owed_of state.caller new) call false
       → OnlyOwed state.caller mid new → IsKept (state_of s.links s.first after_calls) places new began
   give_kept after_calls mid new wanted is goes owed only =
       let caller = state.caller in
       let may : call < begun s = has_begun call s state call_is in
       let held : IsHeld s caller call = record { state = state; call_is = call_is; caller_is = refl; wanted = wanted } in
-      let gone : Updates nat_cmp (owed_of caller callers) (owed_of caller new) call false = subst (λ (x : BTreeSet ℕ). Updates nat_cmp x (owed_of caller new) call false) (goes.only.owed caller) owed in
+      let gone : Owes (owed_of caller callers) (owed_of caller new) call false = subst (λ (x : List ℕ). Owes x (owed_of caller new) call false) (goes.only.owed caller) owed in
       let others : (other : ℕ) → other ≢ caller → order_of other new ≡ order_of other callers = λ other ne. only.order other ∙ goes.only.order other ne in
       let to : is_ordered order ≡ true → OrderGoes (given_up place count) (order_of caller callers) (order_of caller new) = λ o. subst (λ (x : Order). OrderGoes (given_up place count) (order_of caller callers) x) (sym (only.order caller)) (goes.ordered o) in
       let same : is_ordered order ≡ false → (other : ℕ) → order_of other new ≡ order_of other callers = λ f other. elim (cases_eq other caller) [

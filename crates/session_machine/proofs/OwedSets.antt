@@ -1,35 +1,68 @@
--- The calls of a caller that are owed a reply, as a set of numbers.
-use Rattle.std.proofs.Common.{◌≡◌, ◌≤◌, inl, inr, ℕ, true, false, List, length, [], ◌∷◌, refl, sym, ap, subst, ◌∙◌, arith}
-use Rattle.std.specs.List.{list_any}
-use Rattle.std.specs.Ordering.{nat_cmp, is_gt}
-use Rattle.std.specs.BTreeMap.{is_at}
-use Rattle.std.specs.BTreeSet.{BTreeSet, Updates, IsLowerBound}
+-- The calls of a caller that are owed a reply, by their numbers.
+use Rattle.std.proofs.Common.{◌≡◌, ◌<◌, ◌++◌, inl, inr, ℕ, Bool, true, false, List, [], ◌∷◌, refl, sym, subst, ◌∙◌, arith}
 use Rattle.std.proofs.lemmas.Bool.{cases_eq}
-use Rattle.std.proofs.lemmas.Bool.Decides.{nat_tests}
-use Rattle.session_machine.specs.Ties.{is_owed, IsFirstOwed}
-use Rattle.session_machine.proofs.Numbers.{other_key}
-
--- the same numbers
-pub same_keys : (call : ℕ) (old new : BTreeSet ℕ) → new.keys ≡ old.keys → is_owed call new ≡ is_owed call old
-same_keys call old new e = ap (λ (ks : List ℕ). list_any (is_at (nat_cmp call)) ks) e
+use Rattle.session_core.specs.Inner.Lane.{In, Ascends, without}
+use Rattle.session_core.proofs.Ascending.{same_place, in_pushed, pushed_in, in_without, without_in}
+use Rattle.session_machine.specs.Ties.{is_owed, IsFirstOwed, Owes}
 
 -- a call began, and is owed no reply after all
-pub taken_back : (call : ℕ) (old mid new : BTreeSet ℕ) → is_owed call old ≡ false → Updates nat_cmp old mid call true → Updates nat_cmp mid new call false → (n : ℕ) → is_owed n new ≡ is_owed n old
-taken_back call old mid new none more less n = elim (cases_eq n call) [
-  | inl same ↦ subst (λ m. is_owed m new ≡ is_owed m old) (sym same) (less.1 ∙ sym none)
-  | inr ne ↦ less.2 n (other_key call n ne) ∙ more.2 n (other_key call n ne)
+pub taken_back : (call : ℕ) (old mid new : List ℕ) → ((other : ℕ) → is_owed other old ≡ true → other < call) → Owes old mid call true → Owes mid new call false → (n : ℕ) → is_owed n new ≡ is_owed n old
+taken_back call old mid new later more less n = elim (cases_eq n call) [
+  | inl same ↦ subst (λ m. is_owed m new ≡ is_owed m old) (sym same) (less.here ∙ sym (fresh (is_owed call old) (later call)))
+  | inr ne ↦ less.others n ne ∙ more.others n ne
+]
+  where
+    fresh : (b : Bool) → (b ≡ true → call < call) → b ≡ false
+    fresh false lt = refl
+    fresh true lt = let h = lt refl in absurd (omega (arith, h))
+
+-- ---- what stands in the list is owed
+
+pub owed_in : (call : ℕ) (owed : List ℕ) → is_owed call owed ≡ true → In call owed
+owed_in call [] e = absurd (cc)
+owed_in call (x ∷ owed) e = elim (same_place x call) [
+  | inl same ↦ inl same.0
+  | inr apart ↦ inr (owed_in call owed (rw apart.1 at e))
 ]
 
-at_most : (call other : ℕ) → is_gt (nat_cmp call other) ≡ false → call ≤ other
-at_most call other h = grind (arith, nat_tests)
+pub in_owed : (call : ℕ) (owed : List ℕ) → In call owed → is_owed call owed ≡ true
+in_owed call [] h = absurd h
+in_owed call (x ∷ owed) h = elim (same_place x call) [
+  | inl same ↦ rw same.1 refl
+  | inr apart ↦ rw apart.1 (elim h [ inl same ↦ absurd (apart.0 same) | inr i ↦ in_owed call owed i ])
+]
 
--- the least of the set is the first one
-pub first_is : (call : ℕ) (owed : BTreeSet ℕ) → is_owed call owed ≡ true → IsLowerBound nat_cmp owed call → IsFirstOwed call owed
-first_is call owed is least = record { is = is; least = λ other there. at_most call other (least other there) }
+not_owed : (call : ℕ) (owed : List ℕ) → (In call owed → ⊥) → is_owed call owed ≡ false
+not_owed call owed none = by (is_owed call owed) (owed_in call owed)
+  where
+    by : (b : Bool) → (b ≡ true → In call owed) → b ≡ false
+    by false is = refl
+    by true is = absurd (none (is refl))
 
-none_in : (keys : List ℕ) (call : ℕ) → length keys ≤ 0 → list_any (is_at (nat_cmp call)) keys ≡ false
-none_in [] call h = refl
-none_in (k ∷ keys) call h = absurd (omega (arith, h))
+same_owed : (call : ℕ) (old new : List ℕ) → (In call old → In call new) → (In call new → In call old) → is_owed call new ≡ is_owed call old
+same_owed call old new to from = by (is_owed call old) refl
+  where
+    by : (b : Bool) → is_owed call old ≡ b → is_owed call new ≡ b
+    by true e = in_owed call new (to (owed_in call old e))
+    by false e = not_owed call new (λ i. let z : true ≡ false = sym (in_owed call old (from i)) ∙ e in cc)
 
-pub none_owed : (owed : BTreeSet ℕ) (call : ℕ) → length owed.keys ≤ 0 → is_owed call owed ≡ false
-none_owed owed call h = none_in owed.keys call h
+-- a later call is owed a reply, too
+pub owed_pushed : (call : ℕ) (owed : List ℕ) → Owes owed (owed ++ call ∷ []) call true
+owed_pushed call owed = record {
+  here = in_owed call (owed ++ call ∷ []) (pushed_in call call owed (inl refl));
+  others = λ n ne. same_owed n owed (owed ++ call ∷ []) (λ i. pushed_in n call owed (inr i)) (λ i. elim (in_pushed n call owed i) [ inl same ↦ absurd (ne (sym same)) | inr was ↦ was ]);
+}
+
+-- a call is owed none
+pub owed_without : (call : ℕ) (owed : List ℕ) → Owes owed (without call owed) call false
+owed_without call owed = record {
+  here = not_owed call (without call owed) (λ i. (in_without call call owed i).0 refl);
+  others = λ n ne. same_owed n owed (without call owed) (λ i. without_in n call owed ne i) (λ i. (in_without n call owed i).1);
+}
+
+-- the first one is the least
+pub first_owed : (call : ℕ) (rest : List ℕ) → Ascends (call ∷ rest) → IsFirstOwed call (call ∷ rest)
+first_owed call rest a = record {
+  is = in_owed call (call ∷ rest) (inl refl);
+  least = λ other there. elim (owed_in other (call ∷ rest) there) [ inl same ↦ omega (arith, same) | inr i ↦ let lt = a.0 other i in omega (arith, lt) ];
+}

@@ -1,10 +1,9 @@
 -- The callers of a session, by their numbers.
-use Rattle.std.specs.Prelude.{◌≡◌, ◌≢◌, ◌⊎◌, ℕ, Option, None, Some}
+use Rattle.std.specs.Prelude.{◌≡◌, ◌≢◌, ◌⊎◌, ℕ, Option, None, Some, List}
 use Rattle.std.specs.Option.{unwrap_or, option_map}
 use Rattle.std.specs.Ordering.{nat_cmp}
 use Rattle.std.specs.BTreeMap.{get}
 use Rattle.session_core.specs.Order.{Order, no_order}
-use Rattle.std.specs.BTreeSet.{BTreeSet}
 use Rattle.std.specs.declared.alloc.Global.{Global}
 use Rattle.std.specs.declared.boxed.Box.{Box}
 use Rattle.session_machine.specs.Ties.{no_owed, is_owed}
@@ -28,7 +27,7 @@ unfoldable pub order_of : ℕ → Callers → Order
 order_of caller callers = (caller_of caller callers).order
 
 -- which of its calls are owed a reply
-unfoldable pub owed_of : ℕ → Callers → BTreeSet ℕ
+unfoldable pub owed_of : ℕ → Callers → List ℕ
 owed_of caller callers = (caller_of caller callers).owed
 
 -- the number of its last call, if something is kept of it

@@ -1,7 +1,6 @@
 -- How the parts of calls stand in the orders of their callers, and which replies callers are owed.
-use Rattle.std.specs.Prelude.{◌≡◌, ◌+◌, ◌<◌, ◌≤◌, ◌==◌, ◌&&◌, ℕ, Bool, true, false, if◌then◌else◌, List, length, nat_lt, nat_le, Some, slice_get, [], option_map}
-use Rattle.std.specs.Ordering.{nat_cmp}
-use Rattle.std.specs.BTreeSet.{BTreeSet, contains}
+use Rattle.std.specs.Prelude.{◌≡◌, ◌≢◌, ◌+◌, ◌<◌, ◌≤◌, ◌==◌, ◌&&◌, ℕ, Bool, true, false, if◌then◌else◌, List, length, nat_lt, nat_le, Some, slice_get, [], option_map}
+use Rattle.std.specs.List.{list_any}
 use Rattle.session_core.specs.declared.ordered_part.OrderedPart.{OrderedPart}
 use Rattle.session_core.specs.declared.ordered_part.Status.{Status}
 use Rattle.session_core.specs.declared.ordered_part.Status.TheVariants as status
@@ -109,20 +108,25 @@ pub record OrderGoes (change : ℕ → Status → Status) (old new : Order) : Ty
 
 -- ---- which replies a caller is owed, by the numbers of its calls
 
-abbrev pub no_owed : BTreeSet ℕ
-no_owed = record { keys = [] }
+abbrev pub no_owed : List ℕ
+no_owed = []
 
 -- the reply to this call is owed
-abbrev pub is_owed : ℕ → BTreeSet ℕ → Bool
-is_owed call owed = contains nat_cmp owed call
+abbrev pub is_owed : ℕ → List ℕ → Bool
+is_owed call owed = list_any (λ number. number == call) owed
+
+-- The reply to this call is owed now, or is not. The others are owed as before.
+pub record Owes (old new : List ℕ) (call : ℕ) (now : Bool) : Type 0 where
+  pub here : is_owed call new ≡ now
+  pub others : (other : ℕ) → other ≢ call → is_owed other new ≡ is_owed other old
 
 -- The reply to this call is owed, and none to an earlier one.
-pub record IsFirstOwed (call : ℕ) (owed : BTreeSet ℕ) : Type 0 where
+pub record IsFirstOwed (call : ℕ) (owed : List ℕ) : Type 0 where
   pub is : is_owed call owed ≡ true
   pub least : (other : ℕ) → is_owed other owed ≡ true → call ≤ other
 
 -- A caller is owed a reply to each of its calls that is wanted, and to no other.
-pub record AreOwed (s : State) (owed : ℕ → BTreeSet ℕ) : Type 0 where
+pub record AreOwed (s : State) (owed : ℕ → List ℕ) : Type 0 where
   pub wanted : (call : ℕ) (state : CallState) → call_at call s ≡ Some state → state.is_wanted ≡ true
       → is_owed call (owed state.caller) ≡ true
   pub comes : (caller call : ℕ) → is_owed call (owed caller) ≡ true

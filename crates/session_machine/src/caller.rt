@@ -1,15 +1,13 @@
 //! One caller of a session.
 
-ghost use Rattle.std.specs.Prelude.{◌≡◌, true, false, IfOk, OnOk, OnErr};
-ghost use Rattle.std.specs.Ordering.{nat_cmp};
-ghost use Rattle.std.specs.BTreeSet.{Updates};
+ghost use Rattle.std.specs.Prelude.{◌≡◌, ◌<◌, ℕ, true, IfOk, OnOk, OnErr};
 ghost use Rattle.session_core.specs.Order.{MayJoin, joined};
-ghost use Rattle.session_machine.specs.Ties.{end_of, is_owed};
+ghost use Rattle.session_machine.specs.Ties.{Owes, end_of, is_owed};
 ghost use Rattle.session_machine.specs.Caller.{no_calls, KeepsCalls};
 
+use crate::owed::Owed;
 use session_core::{CallerOrder, PartOrder};
 use std::alloc::{AllocError, Global};
-use std::collections::BTreeSet;
 
 /// The caller of a call, and where the call stands among those of its caller.
 #[derive(Debug, Clone, Copy)]
@@ -24,8 +22,7 @@ pub(crate) struct CallPlaces {
 #[derive(Drop)]
 pub(crate) struct Caller {
     pub(crate) order: CallerOrder,
-    /// The numbers of the calls that are owed a reply. They rise in the order of the calls.
-    pub(crate) owed: BTreeSet<u64>,
+    pub(crate) owed: Owed,
     /// The number of its last call.
     pub(crate) last: u64,
 }
@@ -37,7 +34,7 @@ impl Caller {
     {
         Caller {
             order: CallerOrder::new(alloc),
-            owed: BTreeSet::new(alloc),
+            owed: Owed::new(alloc),
             last: 0,
         }
     }
@@ -47,16 +44,13 @@ impl Caller {
         ensures { self.new ≡ no_calls }
     {
         self.order.clear();
-        // A set that is empty keeps its memory, which its own `clear` would free.
-        if !self.owed.is_empty() {
-            self.owed.clear();
-        }
+        self.owed.clear();
         self.last = 0;
     }
 
-    /// Whether it has room for few parts at most.
+    /// Whether it has room for few parts and calls at most.
     pub(crate) fn is_small(&self) -> bool {
-        self.order.is_small()
+        self.order.is_small() && self.owed.is_small()
     }
 
     /// Adds a call of the caller of this number: its parts join the order, and its reply is owed.
@@ -72,18 +66,18 @@ impl Caller {
         orders: &[PartOrder],
     ) -> Result<CallPlaces, AllocError>
         requires joins { MayJoin number orders.now self.old.order }
-        requires is_new { is_owed number self.old.owed ≡ false }
+        requires later { (call : ℕ) → is_owed call self.old.owed ≡ true → call < number }
         ensures caller { IfOk result (λ places. places.caller ≡ caller) }
         ensures place { IfOk result (λ places. places.order ≡ end_of self.old.order) }
         ensures joined { OnOk result (self.new.order ≡ joined number orders.now self.old.order) }
-        ensures owed { OnOk result (Updates nat_cmp self.old.owed self.new.owed number true) }
+        ensures owed { OnOk result (Owes self.old.owed self.new.owed number true) }
         ensures last { OnOk result (self.new.last ≡ number) }
         ensures err { OnErr result (KeepsCalls self.old self.new) }
     {
         let order = self.order.end();
-        self.owed.insert(number)?;
+        self.owed.push(number)?;
         if let Err(error) = self.order.join(alloc, number, orders) {
-            self.owed.remove(&number);
+            self.owed.remove(number);
             return Err(error);
         }
         self.last = number;

@@ -3,10 +3,9 @@
 ghost use Rattle.std.specs.Prelude.{◌≡◌, ◌+◌, ◌<◌, ◌≤◌, ℕ, true, false, Some, None, IfOk, OnOk, OnErr, IfSome, IfNone, slice_get};
 ghost use Rattle.std.specs.Ordering.{nat_cmp};
 ghost use Rattle.std.specs.BTreeMap.{get};
-ghost use Rattle.std.specs.BTreeSet.{Updates};
 ghost use Rattle.session_core.specs.declared.ordered_part.Status.TheVariants.{Waits, Asked, Settled, Unsent};
 ghost use Rattle.session_core.specs.Order.{no_order, IsTrimmed, MayAsk, MayJoin, IsOf, Offers, NamesWaiting, IsWaiting, IsOnItsWay, IsOvertaken, joined, with_status, trimmed};
-ghost use Rattle.session_machine.specs.Ties.{end_of, given_up, is_owed, no_owed, IsFirstOwed, OrderGoes};
+ghost use Rattle.session_machine.specs.Ties.{Owes, end_of, given_up, is_owed, no_owed, IsFirstOwed, OrderGoes};
 ghost use Rattle.session_machine.specs.Callers.{order_of, owed_of, last_of, OthersKept, OnlyOrder, OnlyOwed, CallsKept, ForgetsAfter};
 
 use crate::caller::{CallPlaces, Caller};
@@ -14,7 +13,7 @@ use crate::giving_up::give_up;
 use crate::spares::Spares;
 use session_core::{Askable, CallerOrder, Overtaken, PartOrder};
 use std::alloc::{AllocError, Global};
-use std::collections::{BTreeMap, BTreeSet};
+use std::collections::BTreeMap;
 
 /// The callers of a session, by the numbers that its users choose for them.
 ///
@@ -22,7 +21,8 @@ use std::collections::{BTreeMap, BTreeSet};
 /// that was not used yet, or was forgotten, is a caller without calls.
 ///
 /// A call takes a time that grows with the logarithm of the number of callers and of the parts of one,
-/// averaged over the calls, except as [`CallerOrder`] says.
+/// averaged over the calls, except as [`CallerOrder`] says, and that a call may be given up between
+/// others.
 #[derive(Drop)]
 pub(crate) struct Callers {
     /// Each is in a block of its own, so that the tree moves little when others come and go.
@@ -58,11 +58,11 @@ impl Callers {
         orders: &[PartOrder],
     ) -> Result<CallPlaces, AllocError>
         requires joins { MayJoin number orders.now (order_of caller self.old) }
-        requires is_new { is_owed number (owed_of caller self.old) ≡ false }
+        requires later { (call : ℕ) → is_owed call (owed_of caller self.old) ≡ true → call < number }
         ensures caller { IfOk result (λ places. places.caller ≡ caller) }
         ensures place { IfOk result (λ places. places.order ≡ end_of (order_of caller self.old)) }
         ensures joined { OnOk result (order_of caller self.new ≡ joined number orders.now (order_of caller self.old)) }
-        ensures owed { OnOk result (Updates nat_cmp (owed_of caller self.old) (owed_of caller self.new) number true) }
+        ensures owed { OnOk result (Owes (owed_of caller self.old) (owed_of caller self.new) number true) }
         ensures last { OnOk result (last_of caller self.new ≡ Some number) }
         ensures others { OthersKept caller self.old self.new }
         ensures err { OnErr result (CallsKept self.old self.new) }
@@ -205,7 +205,7 @@ impl Callers {
         ensures none { IfNone result ((call : ℕ) → is_owed call (owed_of caller self.now) ≡ false) }
     {
         match self.callers.get(&caller) {
-            Some(entry) => first_owed(&entry.owed),
+            Some(entry) => entry.owed.first(),
             None => None,
         }
     }
@@ -213,11 +213,11 @@ impl Callers {
     /// Notes that a call is owed no reply any more: its reply went out, or it was given up.
     pub(crate) fn note_over(&mut self, caller: u64, call: u64)
         requires { is_owed call (owed_of caller self.old) ≡ true }
-        ensures owed { Updates nat_cmp (owed_of caller self.old) (owed_of caller self.new) call false }
+        ensures owed { Owes (owed_of caller self.old) (owed_of caller self.new) call false }
         ensures only { OnlyOwed caller self.old self.new }
     {
         if let Some(entry) = self.callers.get_mut(&caller) {
-            entry.owed.remove(&call);
+            entry.owed.remove(call);
         }
     }
 
@@ -267,7 +267,7 @@ impl Callers {
         ensures caller { IfOk result (λ places. places.caller ≡ caller) }
         ensures place { IfOk result (λ places. places.order ≡ end_of (order_of caller self.old)) }
         ensures joined { OnOk result (order_of caller self.new ≡ joined number orders.now (order_of caller self.old)) }
-        ensures owed { OnOk result (Updates nat_cmp (owed_of caller self.old) (owed_of caller self.new) number true) }
+        ensures owed { OnOk result (Owes (owed_of caller self.old) (owed_of caller self.new) number true) }
         ensures last { OnOk result (last_of caller self.new ≡ Some number) }
         ensures others { OthersKept caller self.old self.new }
         ensures err { OnErr result (CallsKept self.old self.new) }
@@ -276,16 +276,5 @@ impl Callers {
         let places = entry.begin(alloc, caller, number, orders)?;
         self.callers.insert(caller, entry)?;
         Ok(places)
-    }
-}
-
-/// The first call of those that are owed a reply.
-fn first_owed(owed: &BTreeSet<u64>) -> Option<u64>
-    ensures some { IfSome result (λ call. IsFirstOwed call owed.now) }
-    ensures none { IfNone result ((call : ℕ) → is_owed call owed.now ≡ false) }
-{
-    match owed.first() {
-        Some(call) => Some(*call),
-        None => None,
     }
 }

@@ -25,6 +25,7 @@ mod giving_up;
 mod links;
 mod machine;
 mod orders;
+mod owed;
 mod part;
 mod part_places;
 mod spares;

@@ -36,7 +36,8 @@ use std::marker::Model;
 /// A call of a function takes a time that grows with the logarithm of the number of callers and of parts
 /// of one caller, and with the number of parts of the call, averaged over the calls. It does not grow with
 /// the number of links or of calls. A part may be ended while others of its caller and slot wait before and
-/// after it. Then up to half of their places also move by one.
+/// after it, or a call be given up while earlier and later ones of its caller are owed a reply. Then up to
+/// half of their places or numbers also move by one.
 #[derive(Drop)]
 pub struct Machine {
     links: Links,

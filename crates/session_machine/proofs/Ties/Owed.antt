@@ -1,15 +1,13 @@
 -- Which replies callers are owed, and whose turn it is.
 use Rattle.std.proofs.Common.{◌≡◌, ◌≢◌, ◌<◌, ◌≤◌, ◌&&◌, ◌⊎◌, inl, inr, ℕ, Bool, true, false, not, List, None, Some, refl, sym, ap, ◌∙◌, subst, arith}
-use Rattle.std.specs.Ordering.{nat_cmp}
-use Rattle.std.specs.BTreeSet.{BTreeSet, Updates}
 use Rattle.std.proofs.lemmas.Bool.{false≢true, eq-eqb, cases_lt, cases_eq}
 use Rattle.resp_core.proofs.Cases.{and_first, and_second}
 use Rattle.session_core.specs.Part.{PartState}
 use Rattle.session_core.specs.State.{CallState, State, Event, Begin, GiveUp, Finish, IsTurn, start, begun, call_at, unwants, May, after}
 use Rattle.session_core.proofs.AfterEvents.{has_begun, not_begun, new_calls, begun_after, call_goes, call_came, call_new, begins, same_call}
 use Rattle.session_core.proofs.Turns.{not_true}
-use Rattle.session_machine.specs.Ties.{AreOwed, IsFirstOwed, is_owed, no_owed}
-use Rattle.session_machine.proofs.Numbers.{other_number, other_key}
+use Rattle.session_machine.specs.Ties.{Owes, AreOwed, IsFirstOwed, is_owed, no_owed}
+use Rattle.session_machine.proofs.Numbers.{other_number}
 
 -- ---- a call, before an event and after it
 
@@ -45,14 +43,14 @@ one_held a b = sym a.caller_is ∙ ap (λ (c : CallState). c.caller) (same_call 
 
 -- ---- what is owed, by caller
 
-pub held_owed : {s : State} {owed : ℕ → BTreeSet ℕ} {caller call : ℕ} → AreOwed s owed → IsHeld s caller call → is_owed call (owed caller) ≡ true
+pub held_owed : {s : State} {owed : ℕ → List ℕ} {caller call : ℕ} → AreOwed s owed → IsHeld s caller call → is_owed call (owed caller) ≡ true
 held_owed {owed = owed} {call = call} o w = subst (λ c. is_owed call (owed c) ≡ true) w.caller_is (o.wanted call w.state w.call_is w.wanted)
 
-pub held_of : {s : State} {owed : ℕ → BTreeSet ℕ} (caller call : ℕ) → AreOwed s owed → is_owed call (owed caller) ≡ true → IsHeld s caller call
+pub held_of : {s : State} {owed : ℕ → List ℕ} (caller call : ℕ) → AreOwed s owed → is_owed call (owed caller) ≡ true → IsHeld s caller call
 held_of caller call o is = let c = o.comes caller call is in record { state = c.0; call_is = c.1; caller_is = c.2; wanted = c.3 }
 
 -- It is the turn of a call if no reply to an earlier one is owed to its caller.
-pub turn_by : {s : State} {owed : ℕ → BTreeSet ℕ} (caller call : ℕ) → AreOwed s owed → ((n : ℕ) → is_owed n (owed caller) ≡ true → call ≤ n) → IsTurn s caller call
+pub turn_by : {s : State} {owed : ℕ → List ℕ} (caller call : ℕ) → AreOwed s owed → ((n : ℕ) → is_owed n (owed caller) ≡ true → call ≤ n) → IsTurn s caller call
 turn_by {owed = owed} caller call o least = λ n state lt is own. unwanted n state.is_wanted lt (λ w. subst (λ c. is_owed n (owed c) ≡ true) own (o.wanted n state is w))
   where
     unwanted : (n : ℕ) (wanted : Bool) → n < call → (wanted ≡ true → is_owed n (owed caller) ≡ true) → wanted ≡ false
@@ -60,14 +58,14 @@ turn_by {owed = owed} caller call o least = λ n state lt is own. unwanted n sta
     unwanted n true lt at = let le = least n (at refl) in absurd (omega (arith, le, lt))
 
 -- No reply to an earlier call is owed to a caller if it is the turn of this call.
-pub turn_above : {s : State} {owed : ℕ → BTreeSet ℕ} (caller call other : ℕ) → AreOwed s owed → IsTurn s caller call → is_owed other (owed caller) ≡ true → call ≤ other
+pub turn_above : {s : State} {owed : ℕ → List ℕ} (caller call other : ℕ) → AreOwed s owed → IsTurn s caller call → is_owed other (owed caller) ≡ true → call ≤ other
 turn_above caller call other o turn is = elim (cases_lt other call) [
   | inl lt ↦ let h = held_of caller other o is in absurd (false≢true (sym (turn other h.state lt h.call_is h.caller_is) ∙ h.wanted))
   | inr ge ↦ ge
 ]
 
 -- The reply to a call that is wanted, and whose turn it is, is next.
-pub turn_is_first : {s : State} {owed : ℕ → BTreeSet ℕ} (caller call first : ℕ) → AreOwed s owed → IsHeld s caller call → IsTurn s caller call → IsFirstOwed first (owed caller) → first ≡ call
+pub turn_is_first : {s : State} {owed : ℕ → List ℕ} (caller call first : ℕ) → AreOwed s owed → IsHeld s caller call → IsTurn s caller call → IsFirstOwed first (owed caller) → first ≡ call
 turn_is_first caller call first o held turn f =
     let low = turn_above caller call first o turn f.is in
     let least = f.least call (held_owed o held) in
@@ -76,13 +74,13 @@ turn_is_first caller call first o held turn f =
 -- ---- events that end no call which is wanted
 
 -- Each caller is owed the same replies.
-abbrev pub AreSameOwed : (ℕ → BTreeSet ℕ) → (ℕ → BTreeSet ℕ) → Type 0
+abbrev pub AreSameOwed : (ℕ → List ℕ) → (ℕ → List ℕ) → Type 0
 AreSameOwed old new = (caller call : ℕ) → is_owed call (new caller) ≡ is_owed call (old caller)
 
-pub same_owed : (old new : ℕ → BTreeSet ℕ) → ((caller : ℕ) → new caller ≡ old caller) → AreSameOwed old new
+pub same_owed : (old new : ℕ → List ℕ) → ((caller : ℕ) → new caller ≡ old caller) → AreSameOwed old new
 same_owed old new same = λ caller call. ap (is_owed call) (same caller)
 
-pub owed_kept : {s : State} {owed : ℕ → BTreeSet ℕ} (e : Event) (new : ℕ → BTreeSet ℕ) → AreOwed s owed → May e s → new_calls e ≡ 0
+pub owed_kept : {s : State} {owed : ℕ → List ℕ} (e : Event) (new : ℕ → List ℕ) → AreOwed s owed → May e s → new_calls e ≡ 0
     → ((caller call : ℕ) → IsHeld s caller call → unwants call e ≡ false) → AreSameOwed owed new → AreOwed (after e s) new
 owed_kept {s = s} {owed = owed} e new o may none stays same = record {
   wanted = λ call state is w.
@@ -98,11 +96,11 @@ owed_kept {s = s} {owed = owed} e new o may none stays same = record {
 -- ---- a call is owed its reply no more
 
 -- The caller is owed the same replies but the one to this call, and others the same.
-pub record IsOver (caller call : ℕ) (old new : ℕ → BTreeSet ℕ) : Type 0 where
-  pub owed : Updates nat_cmp (old caller) (new caller) call false
+pub record IsOver (caller call : ℕ) (old new : ℕ → List ℕ) : Type 0 where
+  pub owed : Owes (old caller) (new caller) call false
   pub others : (other : ℕ) → other ≢ caller → new other ≡ old other
 
-pub owed_over : {s : State} {owed : ℕ → BTreeSet ℕ} {caller call : ℕ} (e : Event) (new : ℕ → BTreeSet ℕ) → AreOwed s owed → May e s → new_calls e ≡ 0 → IsHeld s caller call
+pub owed_over : {s : State} {owed : ℕ → List ℕ} {caller call : ℕ} (e : Event) (new : ℕ → List ℕ) → AreOwed s owed → May e s → new_calls e ≡ 0 → IsHeld s caller call
     → unwants call e ≡ true → ((n : ℕ) → n ≢ call → unwants n e ≡ false) → IsOver caller call owed new → AreOwed (after e s) new
 owed_over {s = s} {owed = owed} {caller = caller} {call = call} e new o may none held ends only over = record {
   wanted = λ n state is w.
@@ -110,7 +108,7 @@ owed_over {s = s} {owed = owed} {caller = caller} {call = call} e new o may none
       let was = held_before e may (held_bound s e may none now) now in
       let ne : n ≢ call = λ same. false≢true (sym was.1 ∙ ap (λ m. unwants m e) same ∙ ends) in
       elim (cases_eq state.caller caller) [
-        | inl own ↦ subst (λ c. is_owed n (new c) ≡ true) (sym own) (over.owed.2 n (other_key call n ne) ∙ subst (λ c. is_owed n (owed c) ≡ true) own (held_owed o was.0))
+        | inl own ↦ subst (λ c. is_owed n (new c) ≡ true) (sym own) (over.owed.others n ne ∙ subst (λ c. is_owed n (owed c) ≡ true) own (held_owed o was.0))
         | inr other ↦ ap (is_owed n) (over.others state.caller other) ∙ held_owed o was.0
       ];
   comes = λ c n is.
@@ -123,41 +121,37 @@ owed_over {s = s} {owed = owed} {caller = caller} {call = call} e new o may none
     old c n is = elim (cases_eq c caller) [
       | inl own ↦
           let here : is_owed n (new caller) ≡ true = subst (λ m. is_owed n (new m) ≡ true) own is in
-          let ne : n ≢ call = λ same. false≢true (sym over.owed.1 ∙ subst (λ m. is_owed m (new caller) ≡ true) same here) in
-          (held_of c n o (subst (λ m. is_owed n (owed m) ≡ true) (sym own) (sym (over.owed.2 n (other_key call n ne)) ∙ here)), ne)
+          let ne : n ≢ call = λ same. false≢true (sym over.owed.here ∙ subst (λ m. is_owed m (new caller) ≡ true) same here) in
+          (held_of c n o (subst (λ m. is_owed n (owed m) ≡ true) (sym own) (sym (over.owed.others n ne) ∙ here)), ne)
       | inr other ↦
           let was = held_of c n o (ap (is_owed n) (sym (over.others c other)) ∙ is) in
           (was, λ same. other (one_held (subst (λ m. IsHeld s c m) same was) held))
     ]
 
-pub owed_finished : {s : State} {owed : ℕ → BTreeSet ℕ} {caller call : ℕ} (state : CallState) (new : ℕ → BTreeSet ℕ) → AreOwed s owed → May (Finish call state) s → IsHeld s caller call
+pub owed_finished : {s : State} {owed : ℕ → List ℕ} {caller call : ℕ} (state : CallState) (new : ℕ → List ℕ) → AreOwed s owed → May (Finish call state) s → IsHeld s caller call
     → IsOver caller call owed new → AreOwed (after (Finish call state) s) new
 owed_finished {call = call} state new o may held over = owed_over (Finish call state) new o may refl held (eq-eqb call call refl) (λ n ne. other_number call n ne) over
 
-pub owed_given_up : {s : State} {owed : ℕ → BTreeSet ℕ} {caller call : ℕ} (new : ℕ → BTreeSet ℕ) → AreOwed s owed → May (GiveUp call) s → IsHeld s caller call
+pub owed_given_up : {s : State} {owed : ℕ → List ℕ} {caller call : ℕ} (new : ℕ → List ℕ) → AreOwed s owed → May (GiveUp call) s → IsHeld s caller call
     → IsOver caller call owed new → AreOwed (after (GiveUp call) s) new
 owed_given_up {call = call} new o may held over = owed_over (GiveUp call) new o may refl held (eq-eqb call call refl) (λ n ne. other_number call n ne) over
 
 -- ---- a call begins
 
--- no call that is to begin is owed a reply
-pub none_new : {s : State} {owed : ℕ → BTreeSet ℕ} (caller call : ℕ) → AreOwed s owed → begun s ≤ call → is_owed call (owed caller) ≡ false
-none_new {s = s} {owed = owed} caller call o new = fresh (is_owed call (owed caller)) (λ is. held_of caller call o is)
-  where
-    fresh : (b : Bool) → (b ≡ true → IsHeld s caller call) → b ≡ false
-    fresh false held = refl
-    fresh true held = let w = held refl in absurd (omega (arith, has_begun call s w.state w.call_is, new))
+-- each call that is owed a reply is before one that is to begin
+pub owed_before : {s : State} {owed : ℕ → List ℕ} (caller call : ℕ) → AreOwed s owed → begun s ≤ call → (n : ℕ) → is_owed n (owed caller) ≡ true → n < call
+owed_before {s = s} caller call o new n is = let w = held_of caller n o is in let lt = has_begun n s w.state w.call_is in omega (arith, lt, new)
 
 -- The caller is owed the reply to this call, too, and others the same.
-pub record IsMore (caller call : ℕ) (old new : ℕ → BTreeSet ℕ) : Type 0 where
-  pub owed : Updates nat_cmp (old caller) (new caller) call true
+pub record IsMore (caller call : ℕ) (old new : ℕ → List ℕ) : Type 0 where
+  pub owed : Owes (old caller) (new caller) call true
   pub others : (other : ℕ) → other ≢ caller → new other ≡ old other
 
-module _ {s : State} {owed : ℕ → BTreeSet ℕ} (call caller : ℕ) (parts : List PartState) (new : ℕ → BTreeSet ℕ) (o : AreOwed s owed) (may : May (Begin call caller parts) s) (more : IsMore caller call owed new) where
+module _ {s : State} {owed : ℕ → List ℕ} (call caller : ℕ) (parts : List PartState) (new : ℕ → List ℕ) (o : AreOwed s owed) (may : May (Begin call caller parts) s) (more : IsMore caller call owed new) where
   -- what was owed is owed
   kept_reply : (c n : ℕ) → n ≢ call → is_owed n (owed c) ≡ true → is_owed n (new c) ≡ true
   kept_reply c n ne was = elim (cases_eq c caller) [
-    | inl own ↦ subst (λ m. is_owed n (new m) ≡ true) (sym own) (more.owed.2 n (other_key call n ne) ∙ subst (λ m. is_owed n (owed m) ≡ true) own was)
+    | inl own ↦ subst (λ m. is_owed n (new m) ≡ true) (sym own) (more.owed.others n ne ∙ subst (λ m. is_owed n (owed m) ≡ true) own was)
     | inr other ↦ ap (is_owed n) (more.others c other) ∙ was
   ]
 
@@ -166,7 +160,7 @@ module _ {s : State} {owed : ℕ → BTreeSet ℕ} (call caller : ℕ) (parts : 
   new_reply c n now = elim (cases_eq c caller) [
     | inl own ↦ elim (cases_eq n call) [
       | inl same ↦ inr (own, same)
-      | inr ne ↦ inl (subst (λ m. is_owed n (owed m) ≡ true) (sym own) (sym (more.owed.2 n (other_key call n ne)) ∙ subst (λ m. is_owed n (new m) ≡ true) own now))
+      | inr ne ↦ inl (subst (λ m. is_owed n (owed m) ≡ true) (sym own) (sym (more.owed.others n ne) ∙ subst (λ m. is_owed n (new m) ≡ true) own now))
     ]
     | inr other ↦ inl (ap (is_owed n) (sym (more.others c other)) ∙ now)
   ]
@@ -186,7 +180,7 @@ module _ {s : State} {owed : ℕ → BTreeSet ℕ} (call caller : ℕ) (parts : 
           let b : (c : ℕ) × (ps : List PartState) × (Begin call caller parts ≡ Begin n c ps) × (state ≡ record { caller = c; parts = ps; is_wanted = true }) = call_new (Begin call caller parts) n s state may fresh is in
           let number : call ≡ n = cc (b.2) in
           let own : caller ≡ state.caller = cc (b.2, b.3) in
-          subst (λ c. is_owed n (new c) ≡ true) own (subst (λ m. is_owed m (new caller) ≡ true) number more.owed.1)
+          subst (λ c. is_owed n (new c) ≡ true) own (subst (λ m. is_owed m (new caller) ≡ true) number more.owed.here)
     ];
     comes = λ c n now. elim (new_reply c n now) [
       | inl was ↦
@@ -198,21 +192,21 @@ module _ {s : State} {owed : ℕ → BTreeSet ℕ} (call caller : ℕ) (parts : 
 
 -- ---- the start
 
-pub owed_start : (owed : ℕ → BTreeSet ℕ) → ((caller : ℕ) → owed caller ≡ no_owed) → AreOwed start owed
+pub owed_start : (owed : ℕ → List ℕ) → ((caller : ℕ) → owed caller ≡ no_owed) → AreOwed start owed
 owed_start owed none = record {
   wanted = λ call state is w. let no : None ≡ Some state = sym (not_begun call start (omega arith)) ∙ is in absurd (cc);
   comes = λ caller call is. absurd (false≢true (ap (is_owed call) (sym (none caller)) ∙ is));
 }
 
 -- nothing happens
-pub owed_same : {s : State} {owed : ℕ → BTreeSet ℕ} (new : ℕ → BTreeSet ℕ) → AreOwed s owed → AreSameOwed owed new → AreOwed s new
+pub owed_same : {s : State} {owed : ℕ → List ℕ} (new : ℕ → List ℕ) → AreOwed s owed → AreSameOwed owed new → AreOwed s new
 owed_same new o same = record {
   wanted = λ call state is w. same state.caller call ∙ o.wanted call state is w;
   comes = λ caller call is. o.comes caller call (sym (same caller call) ∙ is);
 }
 
 -- a caller without calls that are wanted may be owed nothing
-pub owed_without : {s : State} {owed : ℕ → BTreeSet ℕ} (caller : ℕ) (new : ℕ → BTreeSet ℕ) → AreOwed s owed → ((call : ℕ) → IsHeld s caller call → ⊥) → new caller ≡ no_owed
+pub owed_without : {s : State} {owed : ℕ → List ℕ} (caller : ℕ) (new : ℕ → List ℕ) → AreOwed s owed → ((call : ℕ) → IsHeld s caller call → ⊥) → new caller ≡ no_owed
     → ((other : ℕ) → other ≢ caller → new other ≡ owed other) → AreOwed s new
 owed_without caller new o none empty others = record {
   wanted = λ call state is w.

@@ -4,7 +4,7 @@ use Rattle.session_machine.specs.declared.caller.Caller.{Caller}
 use Rattle.session_machine.proofs.caller.Caller.new.Goals as goal
 
 abbrev made : Order → List ℕ → Caller
-made order keys = record { order = order; owed = record { keys = keys }; last = 0 }
+made order owed = record { order = order; owed = owed; last = 0 }
 
 pub returns : goal.returns
-returns c = ap (λ (o : Order). made o c.new-2.result.keys) c.new.ensures ∙ ap (made no_order) c.new-2.ensures.empty
+returns c = ap (λ (o : Order). made o c.new-2.result) c.new.ensures ∙ ap (made no_order) c.new-2.ensures

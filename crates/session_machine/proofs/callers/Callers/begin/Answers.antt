@@ -1,11 +1,9 @@
-use Rattle.std.proofs.Common.{ℕ, true, OnOk, Some, ap, sym, ◌∙◌, subst}
-use Rattle.std.specs.Ordering.{nat_cmp}
+use Rattle.std.proofs.Common.{◌≡◌, ◌<◌, ℕ, true, OnOk, Some, ap, sym, ◌∙◌, subst, List}
 use Rattle.std.specs.BTreeMap.{BTreeMap}
-use Rattle.std.specs.BTreeSet.{Updates}
 use Rattle.session_machine.specs.declared.caller.Caller.{Caller}
 use Rattle.session_machine.specs.Callers.{Boxed, unboxed, owed_of}
 use Rattle.session_core.specs.Order.{MayJoin}
-use Rattle.session_machine.specs.Ties.{is_owed}
+use Rattle.session_machine.specs.Ties.{Owes, is_owed}
 use Rattle.session_machine.proofs.CallerMaps.{order_by, owed_by, there, lent, last_by, err_kept}
 use Rattle.session_machine.proofs.Outcomes.{on_ok}
 use Rattle.session_machine.proofs.callers.Callers.begin.Goals as goal
@@ -15,10 +13,10 @@ begin-requires-clause-joins c =
     let was = c.deref_mut.result.now in
     subst (MayJoin c.args.number c.args.orders.now) (order_by c.args.caller c.args.self.now was (there c.args.caller c.args.self.now c.in-Some.entry.now was c.deref_mut.ensures.value c.in-Some.ensures.value)) c.requires.joins
 
-pub begin-requires-clause-is_new : goal.begin-requires-clause-is_new
-begin-requires-clause-is_new c =
+pub begin-requires-clause-later : goal.begin-requires-clause-later
+begin-requires-clause-later c =
     let was = c.deref_mut.result.now in
-    ap (is_owed c.args.number) (sym (owed_by c.args.caller c.args.self.now was (there c.args.caller c.args.self.now c.in-Some.entry.now was c.deref_mut.ensures.value c.in-Some.ensures.value))) ∙ c.requires.is_new
+    subst (λ (owed : List ℕ). (call : ℕ) → is_owed call owed ≡ true → call < c.args.number) (owed_by c.args.caller c.args.self.now was (there c.args.caller c.args.self.now c.in-Some.entry.now was c.deref_mut.ensures.value c.in-Some.ensures.value)) c.requires.later
 
 pub returns-in-Some-clause-place : goal.returns-in-Some-clause-place
 returns-in-Some-clause-place c =
@@ -64,4 +62,4 @@ returns-in-Some-clause-last c =
 
 pub returns-in-None-clause-owed : goal.returns-in-None-clause-owed
 returns-in-None-clause-owed c =
-    subst (λ (m : BTreeMap ℕ Boxed). OnOk c.begin_first.result (Updates nat_cmp (owed_of c.args.caller (record c.args.self.now { callers = m })) (owed_of c.args.caller c.begin_first.new.self) c.args.number true)) c.get_mut.follows.holds-at-none c.begin_first.ensures.owed
+    subst (λ (m : BTreeMap ℕ Boxed). OnOk c.begin_first.result (Owes (owed_of c.args.caller (record c.args.self.now { callers = m })) (owed_of c.args.caller c.begin_first.new.self) c.args.number true)) c.get_mut.follows.holds-at-none c.begin_first.ensures.owed

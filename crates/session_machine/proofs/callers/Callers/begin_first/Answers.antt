@@ -1,4 +1,4 @@
-use Rattle.std.proofs.Common.{Some, refl, sym, ap, subst, ◌∙◌}
+use Rattle.std.proofs.Common.{◌≡◌, true, false, Some, refl, sym, ap, subst, ◌∙◌}
 use Rattle.session_core.specs.Order.{MayJoin, joined}
 use Rattle.session_machine.specs.Ties.{end_of, is_owed}
 use Rattle.session_machine.specs.declared.caller.Caller.{Caller}
@@ -11,8 +11,8 @@ begin-requires-clause-joins c =
     let none = missing c.args.caller c.args.self.now (sym c.requires.unknown) ∙ sym (c.deref_mut.ensures.value ∙ c.in_ok-entry.ensures) in
     subst (MayJoin c.args.number c.args.orders.now) (order_by c.args.caller c.args.self.now was none) c.requires.joins
 
-pub begin-requires-clause-is_new : goal.begin-requires-clause-is_new
-begin-requires-clause-is_new c = ap (λ (x : Caller). is_owed c.args.number x.owed) (c.deref_mut.ensures.value ∙ c.in_ok-entry.ensures)
+pub begin-requires-clause-later : goal.begin-requires-clause-later
+begin-requires-clause-later c = λ call is. let z : false ≡ true = sym (ap (λ (x : Caller). is_owed call x.owed) (c.deref_mut.ensures.value ∙ c.in_ok-entry.ensures)) ∙ is in absurd (cc)
 
 pub returns-in_err-entry-clause-others : goal.returns-in_err-entry-clause-others
 returns-in_err-entry-clause-others c = others_same c.args.caller c.args.self.now (record c.args.self.now { spares = c.take.new.self }) refl

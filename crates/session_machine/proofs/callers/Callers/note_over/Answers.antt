@@ -11,7 +11,7 @@ returns-in-Some-clause-owed c =
     let was = c.deref_mut.result.now in
     let now : Boxed = record c.in-Some.entry.now { value = record was { owed = c.remove.new.self } } in
     let w = lent c.args.caller c.args.self.now (c.get_mut.follows.lender now) c.in-Some.entry.now now was c.deref_mut.ensures.value c.in-Some.ensures.value (c.get_mut.follows.holds now) in
-    rw (w.was_owed, w.owed) c.remove.ensures.updates
+    rw (w.was_owed, w.owed) c.remove.ensures
 
 pub returns-in-Some-clause-only : goal.returns-in-Some-clause-only
 returns-in-Some-clause-only c =

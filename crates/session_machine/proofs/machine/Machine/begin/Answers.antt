@@ -7,16 +7,16 @@ use Rattle.session_machine.specs.Callers.{order_of}
 use Rattle.session_machine.specs.Begun.{ordered_of}
 use Rattle.session_machine.specs.Kept.{IsKept}
 use Rattle.session_machine.proofs.Keeping.{state_of}
-use Rattle.session_machine.proofs.Ties.Owed.{none_new}
+use Rattle.session_machine.proofs.Ties.Owed.{owed_before}
 use Rattle.session_machine.proofs.Beginning.{joins, begin_failed, begin_kept, begun_call}
 use Rattle.session_machine.proofs.machine.Machine.begin.Goals as goal
 
-pub begin-requires-clause-is_new : goal.begin-requires-clause-is_new
-begin-requires-clause-is_new c =
+pub begin-requires-clause-later : goal.begin-requires-clause-later
+begin-requires-clause-later c =
     let s : State = record { links = c.self.inside.links; first = c.self.inside.first; calls = c.self.inside.calls.items } in
     let call = c.count_begun-call.result in
     let is : call ≡ begun s = subst (λ (t : State). call ≡ begun t) (sym c.self.view_is) c.count_begun-call.ensures in
-    none_new c.args.caller call c.self.invariant.owed (omega (arith, is))
+    owed_before c.args.caller call c.self.invariant.owed (omega (arith, is))
 
 pub begin-requires-clause-joins : goal.begin-requires-clause-joins
 begin-requires-clause-joins c =

@@ -1,9 +1,7 @@
 use Rattle.std.proofs.Common.{◌≡◌, ℕ, true, false, sym, ◌∙◌, subst}
-use Rattle.std.specs.Ordering.{nat_cmp}
-use Rattle.std.specs.BTreeSet.{Updates}
 use Rattle.session_core.specs.State.{State}
 use Rattle.session_machine.specs.Callers.{owed_of, OnlyOwed}
-use Rattle.session_machine.specs.Ties.{IsFirstOwed, is_owed}
+use Rattle.session_machine.specs.Ties.{Owes, IsFirstOwed, is_owed}
 use Rattle.session_machine.proofs.Finishing.{finish_first, finish_none, finish_happens, finish_kept}
 use Rattle.session_machine.proofs.machine.Machine.finish.Goals as goal
 
@@ -35,7 +33,7 @@ invariant_of-self c =
     let wanted : it.is_wanted ≡ true = sym c.is_wanted.ensures ∙ c.if-not-is_wanted.false in
     let none_waits = sym c.has_none_waiting.ensures ∙ c.if-not-has_none_waiting.false in
     finish_kept s c.self.invariant c.args.call it c.note_replied.new.calls.items c.in-Some.ensures.some wanted none_waits first c.note_replied.ensures new
-    (subst (λ (n : ℕ). Updates nat_cmp (owed_of it.caller old) (owed_of it.caller new) n false) c.if-next-call.false (subst (λ (n : ℕ). Updates nat_cmp (owed_of n old) (owed_of n new) c.in-Some-next_reply.next false) own c.note_over.ensures.owed))
+    (subst (λ (n : ℕ). Owes (owed_of it.caller old) (owed_of it.caller new) n false) c.if-next-call.false (subst (λ (n : ℕ). Owes (owed_of n old) (owed_of n new) c.in-Some-next_reply.next false) own c.note_over.ensures.owed))
     (subst (λ (n : ℕ). OnlyOwed n old new) own c.note_over.ensures.only)
 
 pub returns-clause-finished : goal.returns-clause-finished

@@ -1,9 +1,7 @@
 use Rattle.std.proofs.Common.{◌≡◌, Some, ◌<◌, ◌≤◌, ◌+◌, ◌^◌, ℕ, true, false, length, ap, sym, ◌∙◌, subst, arith}
-use Rattle.std.specs.Ordering.{nat_cmp}
-use Rattle.std.specs.BTreeSet.{Updates}
 use Rattle.session_core.specs.State.{State, call_at}
 use Rattle.session_machine.specs.Callers.{order_of, owed_of, OnlyOwed}
-use Rattle.session_machine.specs.Ties.{end_of, is_owed}
+use Rattle.session_machine.specs.Ties.{Owes, end_of, is_owed}
 use Rattle.session_machine.specs.Kept.{CallGoes}
 use Rattle.session_machine.proofs.Keeping.{call_stands}
 use Rattle.session_machine.proofs.GivingUp.{IsFirstOrder, call_fits, give_within, give_happens, give_owed, give_kept}
@@ -71,7 +69,7 @@ invariant_of-self c =
     let o = c.note_over.ensures in
     let new = c.note_over.new.self in
     give_kept s k c.args.call state order c.place_of-place.result (length c.parts-count.result.now) call_is first count_is c.place_of-place.ensures c.give_up.new.calls.items mid new wanted c.give_up.ensures goes
-    (subst (λ (n : ℕ). Updates nat_cmp (owed_of n mid) (owed_of n new) c.args.call false) own o.owed)
+    (subst (λ (n : ℕ). Owes (owed_of n mid) (owed_of n new) c.args.call false) own o.owed)
     (subst (λ (n : ℕ). OnlyOwed n mid new) own o.only)
 
 pub returns-clause-gave_up : goal.returns-clause-gave_up
