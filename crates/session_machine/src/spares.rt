@@ -6,7 +6,7 @@ ghost use Rattle.session_machine.specs.Caller.{no_calls};
 use crate::caller::Caller;
 use std::alloc::{AllocError, Global};
 
-/// The most callers that are kept. Each has some 2 kB, and 8 kB at most.
+/// The most callers that are kept. Each has some 600 bytes, and 6 kB at most.
 const MOST: usize = 1024;
 
 /// Callers that were forgotten. Mostly a caller is forgotten after each call, so the next call of any
