@@ -120,6 +120,9 @@ impl Part {
     pub fn is_refusal(&self, reply: &[u8]) -> bool
         ensures { result ≡ is_refusal self.now reply.now }
     {
+        if !reply.starts_with(b"-") {
+            return false;
+        }
         self.may_refuse
             && (is_redirect(reply, b"-MOVED", self.order)
                 || is_redirect(reply, b"-ASK", self.order)
@@ -208,11 +211,11 @@ fn is_redirect(reply: &[u8], name: &[u8], order: PartOrder) -> bool
 fn is_redirect_of(reply: &[u8], name: &[u8], slot: u16) -> bool
     ensures { result ≡ starts_with nat_eq reply.now (name.now ++ codes " " ++ decimal slot ++ codes " ") }
 {
-    let mut buffer = Buffer::new();
-    let digits = buffer.format(slot).as_bytes();
     let Some(rest) = rest_after(reply, name) else {
         return false;
     };
+    let mut buffer = Buffer::new();
+    let digits = buffer.format(slot).as_bytes();
     let Some(number) = rest_after(rest, b" ") else {
         return false;
     };
