@@ -1,5 +1,6 @@
 pub mod Ties
 pub mod OwedSets
+pub mod CallerTables
 pub mod CallerMaps
 pub mod GivenUp
 pub mod Prefixes

@@ -17,7 +17,7 @@ pub part_goes : (caller place : ℕ) (order : PartOrder) (st : Status) (old new 
 part_goes caller place order st old new o goes only = record { ordered = λ _. goes; free = λ f. absurd (false≢true (sym f ∙ o)); only = only }
 
 pub part_stays : (caller place : ℕ) (order : PartOrder) (st : Status) (old : Callers) → is_ordered order ≡ false → PartGoes caller place order st old old
-part_stays caller place order st old f = record { ordered = λ o. absurd (false≢true (sym f ∙ o)); free = λ _. refl; only = only_same caller old }
+part_stays caller place order st old f = record { ordered = λ o. absurd (false≢true (sym f ∙ o)); free = λ _. refl; only = only_same caller old old (λ n. refl) }
 
 pub goes_asked : (place link : ℕ) (old new : Order) → MayAsk place link old → new ≡ with_status place (Asked link) old → OrderGoes (gets place (Asked link)) old new
 goes_asked place link old new may is = subst (λ (o : Order). OrderGoes (gets place (Asked link)) old o) (sym is) (goes_to place (Asked link) old may.it may.there)
@@ -41,4 +41,4 @@ pub call_goes : (caller place count : ℕ) (order : PartOrder) (old new : Caller
 call_goes caller place count order old new o goes only = record { ordered = λ _. goes; free = λ f. absurd (false≢true (sym f ∙ o)); only = only }
 
 pub call_stays : (caller place count : ℕ) (order : PartOrder) (old : Callers) → is_ordered order ≡ false → CallGoes caller place count order old old
-call_stays caller place count order old f = record { ordered = λ o. absurd (false≢true (sym f ∙ o)); free = λ _. refl; only = only_same caller old }
+call_stays caller place count order old f = record { ordered = λ o. absurd (false≢true (sym f ∙ o)); free = λ _. refl; only = only_same caller old old (λ n. refl) }

@@ -1,26 +1,16 @@
 -- The callers of a session, by their numbers.
 use Rattle.std.specs.Prelude.{◌≡◌, ◌≢◌, ◌⊎◌, ℕ, Option, None, Some, List}
 use Rattle.std.specs.Option.{unwrap_or, option_map}
-use Rattle.std.specs.Ordering.{nat_cmp}
-use Rattle.std.specs.BTreeMap.{get}
 use Rattle.session_core.specs.Order.{Order, no_order}
-use Rattle.std.specs.declared.alloc.Global.{Global}
-use Rattle.std.specs.declared.boxed.Box.{Box}
 use Rattle.session_machine.specs.Ties.{no_owed, is_owed}
 use Rattle.session_machine.specs.Caller.{no_calls}
+use Rattle.session_machine.specs.CallerTable.{kept_in}
 use Rattle.session_machine.specs.declared.caller.Caller.{Caller}
 use Rattle.session_machine.specs.declared.callers.Callers.{Callers}
 
--- a caller in a block of its own
-abbrev pub Boxed : Type 0
-Boxed = Box Caller Global
-
-abbrev pub unboxed : Option Boxed → Option Caller
-unboxed boxed = option_map (λ (b : Boxed). b.value) boxed
-
 -- a caller by its number, who made no calls if it is not known
 abbrev pub caller_of : ℕ → Callers → Caller
-caller_of caller callers = unwrap_or (unboxed (get nat_cmp callers.callers caller)) no_calls
+caller_of caller callers = unwrap_or (kept_in caller callers.callers) no_calls
 
 -- the parts of a caller, in the order of its calls
 unfoldable pub order_of : ℕ → Callers → Order
@@ -32,7 +22,7 @@ owed_of caller callers = (caller_of caller callers).owed
 
 -- the number of its last call, if something is kept of it
 unfoldable pub last_of : ℕ → Callers → Option ℕ
-last_of caller callers = option_map (λ (c : Caller). c.last) (unboxed (get nat_cmp callers.callers caller))
+last_of caller callers = option_map (λ (c : Caller). c.last) (kept_in caller callers.callers)
 
 -- Every other caller has the same order and the same last call, and is owed the same replies.
 pub record OthersKept (caller : ℕ) (old new : Callers) : Type 0 where

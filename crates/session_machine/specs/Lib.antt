@@ -9,4 +9,5 @@ pub mod Took
 pub mod Begun
 pub mod Ties
 pub mod Caller
+pub mod CallerTable
 pub mod Callers

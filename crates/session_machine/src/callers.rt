@@ -1,32 +1,30 @@
 //! The callers of a session.
 
 ghost use Rattle.std.specs.Prelude.{◌≡◌, ◌+◌, ◌<◌, ◌≤◌, ℕ, true, false, Some, None, IfOk, OnOk, OnErr, IfSome, IfNone, slice_get};
-ghost use Rattle.std.specs.Ordering.{nat_cmp};
-ghost use Rattle.std.specs.BTreeMap.{get};
 ghost use Rattle.session_core.specs.declared.ordered_part.Status.TheVariants.{Waits, Asked, Settled, Unsent};
 ghost use Rattle.session_core.specs.Order.{no_order, IsTrimmed, MayAsk, MayJoin, IsOf, Offers, NamesWaiting, IsWaiting, IsOnItsWay, IsOvertaken, joined, with_status, trimmed};
 ghost use Rattle.session_machine.specs.Ties.{Owes, end_of, given_up, is_owed, no_owed, IsFirstOwed, OrderGoes};
+ghost use Rattle.session_machine.specs.CallerTable.{kept_in};
 ghost use Rattle.session_machine.specs.Callers.{order_of, owed_of, last_of, OthersKept, OnlyOrder, OnlyOwed, CallsKept, ForgetsAfter};
 
 use crate::caller::{CallPlaces, Caller};
+use crate::caller_table::CallerTable;
 use crate::giving_up::give_up;
 use crate::spares::Spares;
 use session_core::{Askable, CallerOrder, Overtaken, PartOrder};
 use std::alloc::{AllocError, Global};
-use std::collections::BTreeMap;
 
 /// The callers of a session, by the numbers that its users choose for them.
 ///
 /// Each has its own order of parts ([`CallerOrder`]) and its own calls that are owed a reply. A number
 /// that was not used yet, or was forgotten, is a caller without calls.
 ///
-/// A call takes a time that grows with the logarithm of the number of callers and of the parts of one,
-/// averaged over the calls, except as [`CallerOrder`] says, and that a call may be given up between
-/// others.
+/// A call takes a time that grows with the logarithm of the number of parts of a caller, averaged over the
+/// calls, and with the logarithm of the number of callers where [`CallerTable`] says so. The exceptions are
+/// in [`CallerOrder`], and a call that is given up between others.
 #[derive(Drop)]
 pub(crate) struct Callers {
-    /// Each is in a block of its own, so that the tree moves little when others come and go.
-    callers: BTreeMap<u64, Box<Caller>>,
+    callers: CallerTable,
     spares: Spares,
 }
 
@@ -38,7 +36,7 @@ impl Callers {
         ensures last { (caller : ℕ) → last_of caller result ≡ None }
     {
         Callers {
-            callers: BTreeMap::new(alloc),
+            callers: CallerTable::new(alloc),
             spares: Spares::new(alloc),
         }
     }
@@ -67,7 +65,7 @@ impl Callers {
         ensures others { OthersKept caller self.old self.new }
         ensures err { OnErr result (CallsKept self.old self.new) }
     {
-        match self.callers.get_mut(&caller) {
+        match self.callers.get_mut(caller) {
             Some(entry) => entry.begin(alloc, caller, number, orders),
             None => self.begin_first(alloc, caller, number, orders),
         }
@@ -145,7 +143,7 @@ impl Callers {
         ensures order { order_of caller self.new ≡ with_status place (Asked link) (order_of caller self.old) }
         ensures only { OnlyOrder caller self.old self.new }
     {
-        if let Some(entry) = self.callers.get_mut(&caller) {
+        if let Some(entry) = self.callers.get_mut(caller) {
             entry.order.note_asked(place, link);
         }
     }
@@ -158,7 +156,7 @@ impl Callers {
         ensures order { order_of caller self.new ≡ with_status place Waits (order_of caller self.old) }
         ensures only { OnlyOrder caller self.old self.new }
     {
-        if let Some(entry) = self.callers.get_mut(&caller) {
+        if let Some(entry) = self.callers.get_mut(caller) {
             entry.order.note_refused(place);
         }
     }
@@ -169,7 +167,7 @@ impl Callers {
         ensures order { order_of caller self.new ≡ trimmed (with_status place Settled (order_of caller self.old)) }
         ensures only { OnlyOrder caller self.old self.new }
     {
-        if let Some(entry) = self.callers.get_mut(&caller) {
+        if let Some(entry) = self.callers.get_mut(caller) {
             entry.order.note_settled(place);
         }
     }
@@ -180,7 +178,7 @@ impl Callers {
         ensures order { order_of caller self.new ≡ trimmed (with_status place Unsent (order_of caller self.old)) }
         ensures only { OnlyOrder caller self.old self.new }
     {
-        if let Some(entry) = self.callers.get_mut(&caller) {
+        if let Some(entry) = self.callers.get_mut(caller) {
             entry.order.note_unsent(place);
         }
     }
@@ -194,7 +192,7 @@ impl Callers {
         ensures order { OrderGoes (given_up place count) (order_of caller self.old) (order_of caller self.new) }
         ensures only { OnlyOrder caller self.old self.new }
     {
-        if let Some(entry) = self.callers.get_mut(&caller) {
+        if let Some(entry) = self.callers.get_mut(caller) {
             give_up(&mut entry.order, place, count);
         }
     }
@@ -204,7 +202,7 @@ impl Callers {
         ensures some { IfSome result (λ call. IsFirstOwed call (owed_of caller self.now)) }
         ensures none { IfNone result ((call : ℕ) → is_owed call (owed_of caller self.now) ≡ false) }
     {
-        match self.callers.get(&caller) {
+        match self.callers.get(caller) {
             Some(entry) => entry.owed.first(),
             None => None,
         }
@@ -216,7 +214,7 @@ impl Callers {
         ensures owed { Owes (owed_of caller self.old) (owed_of caller self.new) call false }
         ensures only { OnlyOwed caller self.old self.new }
     {
-        if let Some(entry) = self.callers.get_mut(&caller) {
+        if let Some(entry) = self.callers.get_mut(caller) {
             entry.owed.remove(call);
         }
     }
@@ -228,7 +226,7 @@ impl Callers {
         if !self.is_last(caller, call) {
             return;
         }
-        let gone = self.callers.remove(&caller);
+        let gone = self.callers.remove(caller);
         self.spares.keep(gone);
     }
 
@@ -237,7 +235,7 @@ impl Callers {
         ensures yes { result ≡ true → last_of caller self.now ≡ Some call }
         ensures no { result ≡ false → last_of caller self.now ≡ Some call → ⊥ }
     {
-        match self.callers.get(&caller) {
+        match self.callers.get(caller) {
             Some(entry) => entry.last == call,
             None => false,
         }
@@ -248,7 +246,7 @@ impl Callers {
         ensures some { IfSome result (λ order. order.now ≡ order_of caller self.now) }
         ensures none { IfNone result (order_of caller self.now ≡ no_order) }
     {
-        match self.callers.get(&caller) {
+        match self.callers.get(caller) {
             Some(entry) => Some(&entry.order),
             None => None,
         }
@@ -262,7 +260,7 @@ impl Callers {
         number: u64,
         orders: &[PartOrder],
     ) -> Result<CallPlaces, AllocError>
-        requires unknown { get nat_cmp self.old.callers caller ≡ None }
+        requires unknown { kept_in caller self.old.callers ≡ None }
         requires joins { MayJoin number orders.now (order_of caller self.old) }
         ensures caller { IfOk result (λ places. places.caller ≡ caller) }
         ensures place { IfOk result (λ places. places.order ≡ end_of (order_of caller self.old)) }

@@ -19,6 +19,7 @@
 
 mod call;
 mod caller;
+mod caller_table;
 mod callers;
 mod calls;
 mod giving_up;

@@ -2,27 +2,28 @@ use Rattle.std.proofs.Common.{refl, sym, ap, subst, ◌∙◌}
 use Rattle.session_core.specs.declared.ordered_part.Status.TheVariants.{Unsent}
 use Rattle.session_core.specs.Order.{Order, IsWaiting, with_status, trimmed}
 use Rattle.session_machine.specs.Caller.{no_calls}
-use Rattle.session_machine.specs.Callers.{Boxed, order_of}
+use Rattle.session_machine.specs.Callers.{order_of}
+use Rattle.session_machine.specs.declared.caller.Caller.{Caller}
 use Rattle.session_machine.proofs.CallerMaps.{order_by, there, missing, none_there, lent, lent_order}
 use Rattle.session_machine.proofs.callers.Callers.note_unsent.Goals as goal
 
 pub note_unsent-requires : goal.note_unsent-requires
 note_unsent-requires c =
-    let was = c.deref_mut.result.now in
-    subst (IsWaiting c.args.place) (order_by c.args.caller c.args.self.now was (there c.args.caller c.args.self.now c.in-Some.entry.now was c.deref_mut.ensures.value c.in-Some.ensures.value)) c.requires
+    let was = c.in-Some.entry.now in
+    subst (IsWaiting c.args.place) (order_by c.args.caller c.args.self.now was (there c.args.caller c.args.self.now was c.in-Some.ensures.value)) c.requires
 
 pub returns-in-Some-clause-order : goal.returns-in-Some-clause-order
 returns-in-Some-clause-order c =
-    let was = c.deref_mut.result.now in
-    let now : Boxed = record c.in-Some.entry.now { value = record was { order = c.note_unsent.new.self } } in
-    let w = lent c.args.caller c.args.self.now (c.get_mut.follows.lender now) c.in-Some.entry.now now was c.deref_mut.ensures.value c.in-Some.ensures.value (c.get_mut.follows.holds now) in
+    let was = c.in-Some.entry.now in
+    let now : Caller = record was { order = c.note_unsent.new.self } in
+    let w = lent c.args.caller c.args.self.now (c.get_mut.follows.lender now) was now c.in-Some.ensures.value (c.get_mut.follows.holds now) in
     w.order ∙ c.note_unsent.ensures ∙ ap (λ (o : Order). trimmed (with_status c.args.place Unsent o)) (sym w.was_order)
 
 pub returns-in-Some-clause-only : goal.returns-in-Some-clause-only
 returns-in-Some-clause-only c =
-    let was = c.deref_mut.result.now in
-    let now : Boxed = record c.in-Some.entry.now { value = record was { order = c.note_unsent.new.self } } in
-    lent_order c.args.caller c.args.self.now (c.get_mut.follows.lender now) c.in-Some.entry.now now was c.deref_mut.ensures.value c.in-Some.ensures.value (c.get_mut.follows.holds now) refl refl
+    let was = c.in-Some.entry.now in
+    let now : Caller = record was { order = c.note_unsent.new.self } in
+    lent_order c.args.caller c.args.self.now (c.get_mut.follows.lender now) was now c.in-Some.ensures.value (c.get_mut.follows.holds now) refl refl
 
 pub returns-in_default-clause-order : goal.returns-in_default-clause-order
 returns-in_default-clause-order c =
