@@ -1,9 +1,6 @@
 -- Lists of which one item changes, by its number.
 use Rattle.std.proofs.Common.{◌≡◌, ◌≢◌, ◌≤◌, ◌+◌, ◌&&◌, ◌==◌, ℕ, zero, suc, true, false, eqb, List, [], ◌∷◌, length, refl, sym, ap, ◌∙◌, arith}
 use Rattle.std.proofs.lemmas.Bool.{eqb-true, eq-eqb}
-use Rattle.std.proofs.lemmas.Bool.Decides.{nat_tests}
-use Rattle.std.specs.Ordering.{nat_cmp}
-use Rattle.std.specs.BTreeMap.{is_at}
 use Rattle.resp_core.proofs.Cases.{by_test}
 use Rattle.session_core.specs.Places.{changed}
 use Rattle.session_core.specs.State.{numbered}
@@ -38,6 +35,3 @@ other_pair call part n q apart =
 
 pub other_number : (call n : ℕ) → n ≢ call → (call == n) ≡ false
 other_number call n apart = by_test (eqb call n) (λ k. absurd (apart (sym (eqb-true call n k)))) (λ k. k)
-
-pub other_key : (key other : ℕ) → other ≢ key → is_at (nat_cmp key) other ≡ false
-other_key key other ne = grind (arith, nat_tests)

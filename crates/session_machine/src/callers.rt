@@ -1,6 +1,6 @@
 //! The callers of a session.
 
-ghost use Rattle.std.specs.Prelude.{◌≡◌, ◌+◌, ◌<◌, ◌≤◌, ℕ, true, false, Some, None, IfOk, OnOk, OnErr, IfSome, IfNone, slice_get};
+ghost use Rattle.std.specs.Prelude.{◌≡◌, ◌+◌, ◌<◌, ◌≤◌, ℕ, true, false, Some, None, IfOk, OnOk, OnErr, IfSome, IfNone};
 ghost use Rattle.session_core.specs.declared.ordered_part.Status.TheVariants.{Waits, Asked, Settled, Unsent};
 ghost use Rattle.session_core.specs.Order.{no_order, IsTrimmed, MayAsk, MayJoin, IsOf, Offers, NamesWaiting, IsWaiting, IsOnItsWay, IsOvertaken, joined, with_status, trimmed};
 ghost use Rattle.session_machine.specs.Ties.{Owes, end_of, given_up, is_owed, no_owed, IsFirstOwed, OrderGoes};
