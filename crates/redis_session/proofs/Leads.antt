@@ -1,5 +1,5 @@
 -- Steps of a session's own, one after the other.
-use Rattle.std.proofs.Common.{◌≡◌, ◌≢◌, ◌⊎◌, inl, inr, ◌++◌, [], ◌∷◌, ◌∙◌, ℕ, zero, suc, List, Bool, true, false, Ok, Err, OnOk, OnErr, None, Some, Vec, Global, refl, subst, sym, ap}
+use Rattle.std.proofs.Common.{◌≡◌, ◌≢◌, ◌⊎◌, inl, inr, ◌++◌, [], ◌∷◌, ◌∙◌, ℕ, zero, suc, List, Bool, true, false, Ok, Err, OnOk, OnErr, Some, Vec, Global, refl, subst, sym, ap}
 use Rattle.std.specs.Prelude.{Result}
 use Rattle.std.specs.Fmt.{digits}
 use Rattle.std.proofs.lemmas.List.{append_assoc, append-nil}

@@ -1,12 +1,12 @@
 -- The numbers of nodes that a directory keeps for slots.
-use Rattle.std.proofs.Common.{◌≡◌, ◌≢◌, ◌⊎◌, inl, inr, ◌++◌, [], ◌∷◌, ℕ, zero, suc, List, Some, length, take, replicate, refl, subst, sym, ap, ◌∙◌}
+use Rattle.std.proofs.Common.{◌≡◌, ◌≢◌, ◌⊎◌, inl, inr, ◌++◌, [], ◌∷◌, ℕ, zero, suc, List, Some, length, take, replicate, subst, sym, ap, ◌∙◌}
 use Rattle.std.specs.Prelude.{slice_get}
 use Rattle.std.proofs.Math.Seq.{take-nil}
 use Rattle.std.proofs.lemmas.Option.{same_Some}
 use Rattle.cluster_slots.specs.Address.{Address}
 use Rattle.redis_session.specs.Directory.{Directory, IsNodeOf}
 use Rattle.redis_session.specs.Inner.SlotNumbers.{AreNodes, SetsNumber, no_node}
-use Rattle.redis_session.specs.Table.{IsNodeAt, KeepsNode, LearnsMoved, Table}
+use Rattle.redis_session.specs.Table.{LearnsMoved, Table}
 use Rattle.redis_session.proofs.NodeTables.{keeps_node}
 
 at_front : {X : Type 0} (xs ys : List X) (k : ℕ) (x : X) → slice_get xs k ≡ Some x → slice_get (xs ++ ys) k ≡ Some x

@@ -1,9 +1,8 @@
-use Rattle.std.proofs.Common.{◌∷◌, [], refl, subst, sym}
+use Rattle.std.proofs.Common.{◌∷◌, [], refl, subst}
 use Rattle.session_core.specs.declared.link.Ticket.TheVariants as ticket
 use Rattle.session_core.specs.LinkEvents as link
 use Rattle.session_core.specs.State.{On}
 use Rattle.redis_session.specs.Leads.{Leads}
-use Rattle.redis_session.specs.Peers.{IsReadyTo}
 use Rattle.redis_session.specs.SessionStates.{SessionState}
 use Rattle.redis_session.specs.SessionView.{view_of}
 use Rattle.redis_session.proofs.Leads.{leads_by, own_map, slots_bytes}

@@ -5,7 +5,6 @@ use Rattle.redis_session.specs.Plans.{IsCallPlan}
 use Rattle.redis_session.specs.SessionStates.{SessionState, names}
 use Rattle.redis_session.specs.declared.plan.CallParts.{CallParts}
 use Rattle.redis_session.specs.declared.rules.ReplyRule.TheVariants.{Several}
-use Rattle.redis_session.specs.SessionView.{view_of}
 use Rattle.redis_session.specs.Table.{group_in}
 use Rattle.redis_session.proofs.Begins.{count_numbers}
 use Rattle.redis_session.proofs.session.Session.errand.Goals as goal

@@ -1,4 +1,4 @@
-use Rattle.std.proofs.Common.{◌≡◌, false, subst, sym}
+use Rattle.std.proofs.Common.{◌≡◌, false, subst}
 use Rattle.std.specs.Prelude.{IfSome}
 use Rattle.redis_session.specs.Directory.{IsNodeOf}
 use Rattle.redis_session.specs.Rules.{is_several, node_in, rule_in}
