@@ -151,7 +151,7 @@ impl Directory {
     ///
     /// # Errors
     ///
-    /// If memory runs out, or ran out when one of them was to be added.
+    /// If memory runs out, or one of them has no number, since memory ran out then or there are too many nodes.
     pub(crate) fn numbers(&self, alloc: Global, group: NodeGroup) -> Result<Vec<usize>, AllocError>
         ensures { IfOk result (λ numbers. AreNumbersOf numbers.items (group_in group self.now.table) self.now.nodes) }
     {
@@ -164,6 +164,21 @@ impl Directory {
             numbers.push(number)?;
         }
         Ok(numbers)
+    }
+
+    /// The numbers of those nodes of the last usable map that are known.
+    ///
+    /// # Errors
+    ///
+    /// If memory runs out.
+    pub(crate) fn known_nodes(&self, alloc: Global) -> Result<Vec<usize>, AllocError> {
+        let mut known = Vec::new(alloc);
+        for address in self.table.group(alloc, NodeGroup::AllNodes)? {
+            if let Some(number) = self.number(address) {
+                known.push(number)?;
+            }
+        }
+        Ok(known)
     }
 
     /// The nodes of the last usable map that are not known.

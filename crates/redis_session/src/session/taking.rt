@@ -191,7 +191,7 @@ impl Session {
         for address in self.directory.unknown_nodes(alloc)? {
             self.number_of(&address)?;
         }
-        let nodes = self.directory.numbers(alloc, NodeGroup::AllNodes)?;
+        let nodes = self.directory.known_nodes(alloc)?;
         self.nodes.note_map(&nodes);
         Ok(())
     }
