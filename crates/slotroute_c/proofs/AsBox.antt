@@ -5,7 +5,7 @@ use mir.Raw.{raw}
 use mir.Syntax.{impl, tcons, tnil, dnil}
 use denote.Exit.{no}
 use denote.Param.{arg, layout}
-use denote.Param.Laws.{Laws, arg_laws}
+use denote.Param.Laws.{arg_laws}
 use denote.RattleType.{RattleType}
 use Rattle.std.proofs.BoxSteps.Form.{Bx, D}
 use Rattle.std.specs.contracts.alloc.Global.{the_row as Heap}

@@ -11,7 +11,7 @@ use contract.Running.{tables}
 use types.Logic.{Logic, sem}
 use seplogic.Ra.Ura.{Ura}
 use Prim.Native.Nat.{ℕ}
-use types.Kit.{‵, raw, ◌⊛◌, some, later, at_ret, ◌$◌, ◌∵◌, !, qed, move, keep, use1, rewrite, split, split3, fsplit, fsplit3, fjoin, fpack, join, drop, pick, await, suffices, frame, group, done}
+use types.Kit.{‵, raw, ◌⊛◌, some, later, at_ret, ◌$◌, ◌∵◌, !, qed, move, keep, use1, rewrite, split, split3, fsplit, fsplit3, fjoin, fpack, join, pick, await, suffices, frame, group, done}
 use types.Part.{whole, sub, look_in}
 use types.Run.{enter, of_opd, addr, load, stop, fld, first, blocks, exec, returns}
 use types.ByLocal.{alloc_all, pass_all, free_all, look_at, get, through, sets, sets_last, env}
