@@ -59,6 +59,7 @@ static const group groups[] = {
 typedef struct place {
     char name[LONGEST_NAME];
     command_kind kind;
+    bool is_added; /* by commands_take */
 } place;
 
 static place places[PLACES];
@@ -88,25 +89,25 @@ static size_t join(char *name, size_t len, word word) {
     return len + word.len;
 }
 
-static void add(const char *name, size_t len, command_kind kind) {
+static place *add(const char *name, size_t len, command_kind kind) {
     place *found = place_of(name, len);
     memcpy(found->name, name, len);
     found->kind = kind;
+    return found;
 }
 
-const char *commands_take(const char *name) {
-    static size_t count;
+const char *commands_refuse(const char *name) {
     char upper[LONGEST_NAME];
     size_t len = join(upper, 0, (word){name, strlen(name)});
     if (len == 0 || len + 1 >= LONGEST_NAME || memchr(upper, '|', len) != NULL)
         return "is not a command's name";
-    if (place_of(upper, len)->kind != COMMAND_UNKNOWN)
-        return "is known already";
-    if (count == MOST_ADDED)
-        return "is one name too many: at most 1024 can be added";
-    count++;
-    add(upper, len, COMMAND_TAKEN);
-    return NULL;
+    const place *found = place_of(upper, len);
+    return found->kind == COMMAND_UNKNOWN || found->is_added ? NULL : "is known already";
+}
+
+void commands_take(const char *name) {
+    char upper[LONGEST_NAME];
+    add(upper, join(upper, 0, (word){name, strlen(name)}), COMMAND_TAKEN)->is_added = true;
 }
 
 void commands_start(void) {

@@ -54,10 +54,11 @@ bool word_is(word word, const char *text); /* in any case */
 /* Fills the table of names, before threads start. */
 void commands_start(void);
 
-enum { MOST_ADDED = 1024 };
+/* Why no command of this name can be added, or NULL. */
+const char *commands_refuse(const char *name);
 
-/* Has another name taken, whose key is its first argument. Returns why it is not, or NULL. */
-const char *commands_take(const char *name);
+/* Has a name taken that is not refused, and whose key is its first argument. There is room for MOST_ADDED. */
+void commands_take(const char *name);
 
 /* Names have numbers below COMMANDS, which is that of all other names. */
 enum { COMMANDS = 2048 };

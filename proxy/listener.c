@@ -45,6 +45,12 @@ static void warn_if_open(const settings *set) {
              address);
 }
 
+bool listeners_are_right(const settings *settings) {
+    return address_is_known(settings->listen) &&
+           (settings->unix_path == NULL || unix_is_right(settings->unix_path)) &&
+           (settings->metrics == NULL || address_is_known(settings->metrics));
+}
+
 bool listeners_open(worker *worker) {
     const settings *set = &the_proxy.settings;
     warn_if_open(set);

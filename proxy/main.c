@@ -1,6 +1,7 @@
 /* A proxy before a Redis cluster: clients speak to it as to one server. README.md says what it does. */
 #include "commands.h"
 #include "listener.h"
+#include "peer.h"
 #include "tls.h"
 #include "worker.h"
 
@@ -70,10 +71,12 @@ static void raise_limits(void) {
              (unsigned long long)the_proxy.settings.max_clients);
 }
 
+enum { APPENDING = O_WRONLY | O_APPEND | O_CLOEXEC };
+
 /* Has standard error go to the file that `log` names. Threads may write meanwhile: then it goes to either. */
 static bool open_log(void) {
     const char *path = the_proxy.settings.log;
-    int fd = path == NULL ? STDERR_FILENO : open(path, O_WRONLY | O_APPEND | O_CREAT | O_CLOEXEC, 0640);
+    int fd = path == NULL ? STDERR_FILENO : open(path, APPENDING | O_CREAT, 0640);
     if (fd < 0 || dup2(fd, STDERR_FILENO) < 0) {
         warn("%s: %s", path, strerror(errno));
         return false;
@@ -83,9 +86,55 @@ static bool open_log(void) {
     return true;
 }
 
+/* Whether the log can be opened. No file is made, since it could belong to the wrong user then. */
+static bool log_is_right(const char *path) {
+    int fd = path == NULL ? -1 : open(path, APPENDING);
+    if (fd >= 0)
+        close(fd);
+    if (path == NULL || fd >= 0 || (errno == ENOENT && path_can_be_made(path)))
+        return true;
+    warn("%s: %s", path, strerror(errno));
+    return false;
+}
+
+/* Whether the log, addresses, paths and certificates are as they should be, and a line of the log if not. The
+ * certificates are used from then on. */
+static bool are_right(const settings *found) {
+    if (!log_is_right(found->log) || !listeners_are_right(found))
+        return false;
+    const char *wrong = tls_start(found);
+    if (wrong != NULL)
+        warn("TLS: %s", wrong);
+    return wrong == NULL;
+}
+
+/* Says whether the settings are right, and returns the status of the program. */
+static int check(const sigset_t *signals) {
+    pthread_sigmask(SIG_UNBLOCK, signals, NULL); /* they end it while an address is looked up */
+    if (!are_right(&the_proxy.settings))
+        return 2;
+    puts("the settings are right");
+    return 0;
+}
+
 /* The words that the program was started with. */
 static int word_count;
 static char **all_words;
+
+/* Opens the log anew and takes the settings that may change. If one is wrong, all stay. */
+static void renew(void) {
+    settings found;
+    open_log();
+    const char *wrong = settings_again(&found, word_count, all_words);
+    if (wrong != NULL) {
+        warn("the settings stay as they are: %s", wrong);
+    } else if (!are_right(&found)) {
+        warn("the settings stay as they are");
+    } else {
+        settings_renew(&the_proxy.settings, &found);
+        raise_limits();
+    }
+}
 
 /* Signals come to this thread alone. The second one that ends the program does so at once. */
 static void *wait_for_signals(void *given) {
@@ -97,10 +146,7 @@ static void *wait_for_signals(void *given) {
             int count = atomic_fetch_add(&the_proxy.draining, 1);
             say("signal %d: %s", signal, count == 0 ? "open requests are finished" : "the end");
         } else if (signal == SIGHUP) {
-            open_log();
-            settings_renew(&the_proxy.settings, word_count, all_words);
-            tls_start();
-            raise_limits();
+            renew();
         } else {
             say("signal %d: it does nothing", signal);
         }
@@ -156,7 +202,11 @@ int main(int count, char **words) {
     all_words = words;
     block_signals(&signals);
     commands_start();
-    if (!settings_read(&the_proxy.settings, count, words) || !open_log() || !tls_start())
+    if (!settings_read(&the_proxy.settings, count, words))
+        return 2;
+    if (the_proxy.settings.is_check)
+        return check(&signals);
+    if (!open_log() || !are_right(&the_proxy.settings))
         return 2;
     raise_limits();
     the_proxy.start = clock_now();

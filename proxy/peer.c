@@ -4,9 +4,11 @@
 
 #include <errno.h>
 #include <fcntl.h>
+#include <limits.h>
 #include <netdb.h>
 #include <netinet/in.h>
 #include <netinet/tcp.h>
+#include <stdio.h>
 #include <stdlib.h>
 #include <string.h>
 #include <sys/epoll.h>
@@ -93,6 +95,13 @@ void address_split(const char *address, char *host, uint16_t *port) {
     host[len] = 0;
 }
 
+bool path_can_be_made(const char *path) {
+    char folder[PATH_MAX + 2];
+    const char *slash = strrchr(path, '/');
+    snprintf(folder, sizeof folder, "%.*s.", slash == NULL ? 0 : (int)(slash + 1 - path), path);
+    return faccessat(AT_FDCWD, folder, W_OK | X_OK, AT_EACCESS) == 0;
+}
+
 /* Has a socket listen at an address, or closes it, and returns -1. */
 static int listen_on(int fd, const struct sockaddr *address, socklen_t len, const char *name) {
     if (fd >= 0 && bind(fd, address, len) == 0 && listen(fd, BACKLOG) == 0)
@@ -103,17 +112,30 @@ static int listen_on(int fd, const struct sockaddr *address, socklen_t len, cons
     return -1;
 }
 
-int listen_at(const char *address) {
+/* What to listen at, or NULL with a line of the log. */
+static struct addrinfo *look_up(const char *address) {
     char host[HOST_ROOM];
     uint16_t port = 0;
     address_split(address, host, &port);
     struct addrinfo hints = {.ai_flags = AI_PASSIVE | AI_NUMERICSERV, .ai_socktype = SOCK_STREAM},
                     *found = NULL;
     int fault = getaddrinfo(host, strrchr(address, ':') + 1, &hints, &found);
-    if (fault != 0) {
+    if (fault != 0)
         warn("%s: %s", address, gai_strerror(fault));
+    return fault == 0 ? found : NULL;
+}
+
+bool address_is_known(const char *address) {
+    struct addrinfo *found = look_up(address);
+    if (found != NULL)
+        freeaddrinfo(found);
+    return found != NULL;
+}
+
+int listen_at(const char *address) {
+    struct addrinfo *found = look_up(address);
+    if (found == NULL)
         return -1;
-    }
     int one = 1, fd = socket(found->ai_family, SOCK_STREAM | SOCK_NONBLOCK | SOCK_CLOEXEC, 0);
     setsockopt(fd, SOL_SOCKET, SO_REUSEADDR, &one, sizeof one);
     fd = listen_on(fd, found->ai_addr, found->ai_addrlen, address);
@@ -121,14 +143,22 @@ int listen_at(const char *address) {
     return fd;
 }
 
+bool unix_is_right(const char *path) {
+    struct stat old;
+    bool is_free = stat(path, &old) != 0 || S_ISSOCK(old.st_mode);
+    if (!is_free)
+        warn("%s: the file is no socket", path);
+    else if (!path_can_be_made(path))
+        warn("%s: %s", path, strerror(errno));
+    else
+        return true;
+    return false;
+}
+
 int listen_unix(const char *path, uint64_t mode) {
     struct sockaddr_un address = {.sun_family = AF_UNIX};
     struct stat old;
-    if (strlen(path) >= sizeof address.sun_path) {
-        warn("%s: the path is too long", path);
-        return -1;
-    }
-    memcpy(address.sun_path, path, strlen(path));
+    memcpy(address.sun_path, path, strlen(path)); /* the settings have checked the length */
     if (stat(path, &old) == 0 && S_ISSOCK(old.st_mode))
         unlink(path);
     mode_t before = mode != 0 ? umask(~(mode_t)mode & 0777) : 0;

@@ -29,6 +29,13 @@ int64_t peer_write(const peer *peer, buffer *out);
 /* Splits HOST:PORT, whose form the settings have checked. */
 void address_split(const char *address, char *host, uint16_t *port);
 
+/* Whether a file can be made at a path. If not, errno has why. */
+bool path_can_be_made(const char *path);
+
+/* Whether an address is known, and whether a path can be that of a socket. If not, the log says why. */
+bool address_is_known(const char *address);
+bool unix_is_right(const char *path);
+
 /* A socket that clients can connect to, or -1 with a line of the log. */
 int listen_at(const char *address);
 int listen_unix(const char *path, uint64_t mode); /* mode: its permissions, or 0 */

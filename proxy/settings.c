@@ -7,6 +7,7 @@
 #include <stdio.h>
 #include <stdlib.h>
 #include <string.h>
+#include <sys/un.h>
 
 /* SECRET: a text that is the first line of a file. MODE: an octal number. */
 typedef enum kind { TEXT, ADDRESS, SECRET, NUMBER, SIZE, MODE, SWITCH, SEED, NAME } kind;
@@ -14,16 +15,17 @@ typedef enum kind { TEXT, ADDRESS, SECRET, NUMBER, SIZE, MODE, SWITCH, SEED, NAM
 typedef struct row {
     const char *name, *says;
     kind kind;
-    size_t at; /* the offset of the field */
-    uint64_t least, most;
+    size_t at;            /* the offset of the field */
+    uint64_t least, most; /* of a number; the longest text, or 0 */
 } row;
 
 #define AT(field) offsetof(settings, field)
+enum { LONGEST_PATH = sizeof((struct sockaddr_un *)0)->sun_path - 1 };
 static const row rows[] = {
     {"node", "HOST:PORT of a node; may be given several times", SEED, AT(seeds), 0, 0},
-    {"take", "NAME of a module's command on one key; may be given several times", NAME, 0, 0, 0},
+    {"take", "NAME of a module's command on one key; may be given several times", NAME, AT(names), 0, 0},
     {"listen", "ADDR:PORT for clients (127.0.0.1:6380)", ADDRESS, AT(listen), 0, 0},
-    {"unix", "PATH of a socket for clients", TEXT, AT(unix_path), 0, 0},
+    {"unix", "PATH of a socket for clients", TEXT, AT(unix_path), 0, LONGEST_PATH},
     {"unix-mode", "permissions of that socket, as 0660 (by the umask)", MODE, AT(unix_mode), 1, 0777},
     {"metrics", "ADDR:PORT of figures, by HTTP", ADDRESS, AT(metrics), 0, 0},
     {"log", "PATH of the log (standard error)", TEXT, AT(log), 0, 0},
@@ -57,9 +59,7 @@ static const row rows[] = {
 enum { ROWS = sizeof rows / sizeof *rows, FIXED = 10 }; /* the first ones are read at the start alone */
 enum { LONGEST_SECRET = 4096 };
 
-/* What is wrong with the settings, and whether they are read for another time. */
-static char fault[500];
-static bool is_again;
+static char fault[500]; /* what is wrong with the settings */
 
 /* A text that settings point to. It stays in memory, once, since a thread may read it at any time. */
 typedef struct kept {
@@ -121,11 +121,32 @@ static bool is_address(const char *value) {
     return *end == 0 && port > 0 && port < 65536;
 }
 
-static const char *set_text(text *field, const char *value) {
+static const char *set_text(text *field, const row *row, const char *value) {
     if (value == NULL)
         return "is no file with a line";
+    if (row->most != 0 && strlen(value) > row->most)
+        return "is too long";
     *field = keep(value);
     return *value == 0 ? "is empty" : NULL;
+}
+
+static const char *add_seed(settings *settings, const char *value) {
+    if (settings->seed_count == MOST_SEEDS)
+        return "is one node too many";
+    settings->seeds[settings->seed_count++] = keep(value);
+    return NULL;
+}
+
+static const char *add_name(settings *settings, const char *value) {
+    for (size_t at = 0; at < settings->name_count; at++)
+        if (strcasecmp(settings->names[at], value) == 0)
+            return "is named already";
+    const char *wrong = commands_refuse(value);
+    if (wrong == NULL && settings->name_count == MOST_ADDED)
+        wrong = "is one name too many: at most 1024 can be added";
+    if (wrong == NULL)
+        settings->names[settings->name_count++] = keep(value);
+    return wrong;
 }
 
 /* Sets a value. Returns what is wrong, or NULL. */
@@ -134,16 +155,12 @@ static const char *set(settings *settings, const row *row, const char *value) {
     uint64_t found = 0;
     if ((row->kind == SEED || row->kind == ADDRESS) && !is_address(value))
         return "is not HOST:PORT";
-    if (row->kind == SEED) {
-        if (settings->seed_count == MOST_SEEDS)
-            return "is one node too many";
-        settings->seeds[settings->seed_count++] = keep(value);
-        return NULL;
-    }
+    if (row->kind == SEED)
+        return add_seed(settings, value);
     if (row->kind == NAME)
-        return is_again ? NULL : commands_take(value);
+        return add_name(settings, value);
     if (row->kind <= SECRET)
-        return set_text(field, row->kind == SECRET ? read_secret(value) : value);
+        return set_text(field, row, row->kind == SECRET ? read_secret(value) : value);
     if (row->kind == SWITCH) {
         *(number *)field = strcmp(value, "yes") == 0;
         return strcmp(value, "yes") == 0 || strcmp(value, "no") == 0 ? NULL : "is neither yes nor no";
@@ -193,24 +210,25 @@ static bool read_file(settings *settings, const char *path) {
         if (wrong != NULL)
             snprintf(fault, sizeof fault, "%s:%zu: %s %s", path, number, line + strspn(line, " \t"), wrong);
     }
+    bool is_read = wrong == NULL && !ferror(file);
+    if (wrong == NULL && !is_read)
+        snprintf(fault, sizeof fault, "%s: %s", path, strerror(errno));
     free(line);
     fclose(file);
-    return wrong == NULL;
+    return is_read;
 }
 
 static void print_usage(FILE *file) {
     fprintf(file, "Usage: slotroute-proxy --node HOST:PORT [--FLAG VALUE ..] [--config FILE]\n\n");
     for (size_t at = 0; at < ROWS; at++)
-        fprintf(file, "  --%-18s %s\n", rows[at].name, rows[at].says);
-    fprintf(file, "  --%-18s a file with a line `name value` for each of these\n", "config");
-    fprintf(file, "  --%-18s print the version\n", "version");
+        fprintf(file, "  --%-19s %s\n", rows[at].name, rows[at].says);
+    fprintf(file, "  --%-19s a file with a line `name value` for each of these\n", "config");
+    fprintf(file, "  --%-19s say whether the settings are right, and end\n", "check");
+    fprintf(file, "  --%-19s print the version\n", "version");
 }
 
-/* Reads one flag at `at`, and returns how many words it takes, or 0 if it is wrong. */
-static int read_flag(settings *settings, int count, char **words, int at) {
-    const char *name = words[at];
-    const char *value = at + 1 < count ? words[at + 1] : NULL;
-    const row *row = strncmp(name, "--", 2) == 0 ? find(name + 2) : NULL;
+/* Ends the program if the flag only asks it to print something. */
+static void answer_flag(const char *name) {
     if (strcmp(name, "--help") == 0) {
         print_usage(stdout);
         exit(0);
@@ -219,18 +237,32 @@ static int read_flag(settings *settings, int count, char **words, int at) {
         printf("slotroute-proxy %s\n", SLOTROUTE_VERSION);
         exit(0);
     }
-    if (strcmp(name, "--config") == 0 && value != NULL)
-        return read_file(settings, value) ? 2 : 0;
+}
+
+/* Reads one flag at `at`, and returns how many words it takes, or 0 if it is wrong. */
+static int read_flag(settings *settings, int count, char **words, int at) {
+    const char *name = words[at];
+    const char *value = at + 1 < count ? words[at + 1] : NULL;
+    const row *row = strncmp(name, "--", 2) == 0 ? find(name + 2) : NULL;
+    bool is_file = strcmp(name, "--config") == 0;
+    answer_flag(name);
+    if (strcmp(name, "--check") == 0) {
+        settings->is_check = true;
+        return 1;
+    }
     if (row != NULL && row->kind == SWITCH) {
         set(settings, row, "yes");
         return 1;
     }
-    const char *wrong = row == NULL     ? "is no flag"
-                        : value == NULL ? "has no value"
-                                        : set(settings, row, value);
+    if (is_file && value != NULL)
+        return read_file(settings, value) ? 2 : 0;
+    bool has_value = row != NULL && value != NULL;
+    const char *wrong = has_value                ? set(settings, row, value)
+                        : is_file || row != NULL ? "has no value"
+                                                 : "is no flag";
     if (wrong == NULL)
         return 2;
-    snprintf(fault, sizeof fault, "%s %s %s", name, row != NULL && value != NULL ? value : "", wrong);
+    snprintf(fault, sizeof fault, "%s%s%s %s", name, has_value ? " " : "", has_value ? value : "", wrong);
     return 0;
 }
 
@@ -267,8 +299,11 @@ static bool read_all(settings *settings, int count, char **words) {
 }
 
 bool settings_read(settings *settings, int count, char **words) {
-    if (read_all(settings, count, words))
+    if (read_all(settings, count, words)) {
+        for (size_t at = 0; at < settings->name_count; at++)
+            commands_take(settings->names[at]);
         return true;
+    }
     if (settings->seed_count == 0 && count == 1)
         print_usage(stderr);
     else
@@ -280,8 +315,10 @@ bool settings_read(settings *settings, int count, char **words) {
 static void renew(settings *settings, const struct settings *from, const row *row) {
     void *field = (char *)settings + row->at;
     const void *found = (const char *)from + row->at;
-    if (row->kind == NAME ||
-        memcmp(field, found, row->kind == SEED ? sizeof from->seeds : sizeof(number)) == 0)
+    size_t len = row->kind == SEED   ? sizeof from->seeds
+                 : row->kind == NAME ? sizeof from->names
+                                     : sizeof(number);
+    if (memcmp(field, found, len) == 0)
         return;
     if (row < rows + FIXED)
         warn("%s stays as it was at the start", row->name);
@@ -291,14 +328,12 @@ static void renew(settings *settings, const struct settings *from, const row *ro
         *(number *)field = *(const number *)found;
 }
 
-void settings_renew(settings *settings, int count, char **words) {
-    struct settings found;
-    is_again = true;
-    if (!read_all(&found, count, words)) {
-        warn("the settings stay as they are: %s", fault);
-        return;
-    }
+const char *settings_again(settings *found, int count, char **words) {
+    return read_all(found, count, words) ? NULL : fault;
+}
+
+void settings_renew(settings *settings, const struct settings *found) {
     for (size_t at = 0; at < ROWS; at++)
-        renew(settings, &found, &rows[at]);
+        renew(settings, found, &rows[at]);
     say("the settings were read anew");
 }

@@ -7,7 +7,7 @@
 #include <stddef.h>
 #include <stdint.h>
 
-enum { MOST_SEEDS = 64, MOST_THREADS = 64 };
+enum { MOST_SEEDS = 64, MOST_THREADS = 64, MOST_ADDED = 1024 };
 
 typedef const char *_Atomic text;
 typedef _Atomic uint64_t number;
@@ -16,6 +16,9 @@ typedef _Atomic uint64_t number;
 typedef struct settings {
     const char *seeds[MOST_SEEDS]; /* HOST:PORT of nodes that are asked for the first map */
     size_t seed_count;
+    const char *names[MOST_ADDED]; /* of commands that `take` adds */
+    size_t name_count;
+    bool is_check;                   /* --check: the program says whether the settings are right, and ends */
     text listen, unix_path, metrics; /* where clients connect to */
     text log;
     text password, node_password, node_user;
@@ -31,7 +34,10 @@ typedef struct settings {
 /* Reads flags, and the file that --config names. Prints what is wrong and returns false. */
 bool settings_read(settings *settings, int count, char **words);
 
-/* Reads them again, and takes those that may change. If one is wrong, all stay, and the log says why. */
-void settings_renew(settings *settings, int count, char **words);
+/* Reads them again. Returns what is wrong, or NULL. */
+const char *settings_again(settings *found, int count, char **words);
+
+/* Takes those that may change. The log names the others that differ. */
+void settings_renew(settings *settings, const struct settings *found);
 
 #endif

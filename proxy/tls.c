@@ -7,6 +7,7 @@
 #include <openssl/err.h>
 #include <openssl/ssl.h>
 #include <pthread.h>
+#include <stdio.h>
 #include <sys/epoll.h>
 #include <sys/socket.h>
 
@@ -15,21 +16,25 @@ enum { FOR_CLIENTS, FOR_NODES, KINDS, MOST_WRITTEN = 1 << 30 };
 static SSL_CTX *contexts[KINDS];
 static pthread_mutex_t lock = PTHREAD_MUTEX_INITIALIZER; /* of `contexts` */
 
-/* Reads what the settings name. False if one is missing or wrong. */
-static bool read_files(SSL_CTX *it) {
-    const char *cert = the_proxy.settings.tls_cert, *key = the_proxy.settings.tls_key,
-               *authority = the_proxy.settings.tls_ca;
-    bool has_cert =
-        cert == NULL || (SSL_CTX_use_certificate_chain_file(it, cert) == 1 &&
-                         SSL_CTX_use_PrivateKey_file(it, key != NULL ? key : cert, SSL_FILETYPE_PEM) == 1);
-    return has_cert && (authority == NULL ? SSL_CTX_set_default_verify_paths(it)
-                                          : SSL_CTX_load_verify_locations(it, authority, NULL)) == 1;
+/* Reads what the settings name. Returns what is missing or wrong, or NULL. */
+static const char *read_files(SSL_CTX *it, const settings *from) {
+    const char *cert = from->tls_cert, *key = from->tls_key, *authority = from->tls_ca;
+    key = key != NULL ? key : cert;
+    if (cert != NULL && SSL_CTX_use_certificate_chain_file(it, cert) != 1)
+        return cert;
+    if (cert != NULL && SSL_CTX_use_PrivateKey_file(it, key, SSL_FILETYPE_PEM) != 1)
+        return key;
+    if (authority == NULL)
+        return SSL_CTX_set_default_verify_paths(it) == 1 ? NULL : "tls-ca";
+    return SSL_CTX_load_verify_locations(it, authority, NULL) == 1 ? NULL : authority;
 }
 
-/* What connections of a kind have in common. No session is kept or resumed, so that none takes memory. */
-static SSL_CTX *context_new(int kind) {
+/* What connections of a kind have in common, or NULL, and then `wrong` has what is wrong. No session is kept
+ * or resumed, so that none takes memory. */
+static SSL_CTX *context_new(int kind, const settings *from, const char **wrong) {
     SSL_CTX *it = SSL_CTX_new(kind == FOR_NODES ? TLS_client_method() : TLS_server_method());
     int check = SSL_VERIFY_PEER | (kind == FOR_CLIENTS ? SSL_VERIFY_FAIL_IF_NO_PEER_CERT : 0);
+    *wrong = it == NULL ? "no memory" : NULL;
     if (it == NULL)
         return NULL;
     SSL_CTX_set_min_proto_version(it, TLS1_2_VERSION);
@@ -37,29 +42,44 @@ static SSL_CTX *context_new(int kind) {
     SSL_CTX_set_session_cache_mode(it, SSL_SESS_CACHE_OFF);
     SSL_CTX_set_mode(it, SSL_MODE_ENABLE_PARTIAL_WRITE | SSL_MODE_ACCEPT_MOVING_WRITE_BUFFER |
                              SSL_MODE_RELEASE_BUFFERS);
-    bool is_checked = kind == FOR_NODES || the_proxy.settings.tls_auth_clients;
+    bool is_checked = kind == FOR_NODES || from->tls_auth_clients;
     SSL_CTX_set_verify(it, is_checked ? check : SSL_VERIFY_NONE, NULL);
-    if (read_files(it))
+    *wrong = read_files(it, from);
+    if (*wrong == NULL)
         return it;
     SSL_CTX_free(it);
     return NULL;
 }
 
-bool tls_start(void) {
-    bool are_wanted[KINDS] = {the_proxy.settings.tls, the_proxy.settings.node_tls};
-    for (int kind = 0; kind < KINDS; kind++) {
-        ERR_clear_error();
-        SSL_CTX *found = are_wanted[kind] ? context_new(kind) : NULL;
-        if (are_wanted[kind] && found == NULL) {
-            warn("TLS: the certificates stay as they are: %s", ERR_error_string(ERR_peek_error(), NULL));
-            return false;
-        }
-        pthread_mutex_lock(&lock);
-        SSL_CTX_free(contexts[kind]);
-        contexts[kind] = found;
-        pthread_mutex_unlock(&lock);
+/* Has new connections of a kind use what was read, if anything was. */
+static void use(int kind, SSL_CTX *found) {
+    if (found == NULL)
+        return;
+    pthread_mutex_lock(&lock);
+    SSL_CTX_free(contexts[kind]);
+    contexts[kind] = found;
+    pthread_mutex_unlock(&lock);
+}
+
+const char *tls_start(const settings *from) {
+    static char fault[500];
+    SSL_CTX *found[KINDS] = {NULL, NULL};
+    const char *wrong = NULL;
+    if (from->tls && from->tls_cert == NULL)
+        return "tls needs tls-cert";
+    ERR_clear_error();
+    if (from->tls)
+        found[FOR_CLIENTS] = context_new(FOR_CLIENTS, from, &wrong);
+    if (from->node_tls && wrong == NULL)
+        found[FOR_NODES] = context_new(FOR_NODES, from, &wrong);
+    if (wrong == NULL) {
+        use(FOR_CLIENTS, found[FOR_CLIENTS]);
+        use(FOR_NODES, found[FOR_NODES]);
+        return NULL;
     }
-    return true;
+    SSL_CTX_free(found[FOR_CLIENTS]);
+    snprintf(fault, sizeof fault, "%s: %s", wrong, ERR_error_string(ERR_peek_error(), NULL));
+    return fault;
 }
 
 bool tls_begin(peer *peer) {
@@ -135,11 +155,9 @@ void tls_free(peer *peer) {
     peer->tls = NULL;
 }
 #else
-bool tls_start(void) {
-    bool is_wanted = the_proxy.settings.tls || the_proxy.settings.node_tls;
-    if (is_wanted)
-        warn("this program was made without TLS: make TLS=1");
-    return !is_wanted;
+const char *tls_start(const settings *from) {
+    bool is_wanted = from->tls || from->node_tls;
+    return is_wanted ? "this program was made without TLS: make TLS=1" : NULL;
 }
 bool tls_begin(peer *peer) { return peer->tls == NULL; }
 int tls_shake(worker *worker, peer *peer, const char **why) {

@@ -8,9 +8,9 @@
 
 enum { SHAKING_TIME = 10 * SECOND }; /* that a client may take for the handshake */
 
-/* Reads the certificates that the settings name, at the start and again. If one is wrong, those from before
- * stay, and the log says why. */
-bool tls_start(void);
+/* Reads the certificates that these settings name, at the start and again. Returns what is wrong, or NULL. If
+ * something is wrong, those from before stay. */
+const char *tls_start(const settings *from);
 
 /* Has a new connection speak TLS, if the settings want it. False if that fails. */
 bool tls_begin(peer *peer);

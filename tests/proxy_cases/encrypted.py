@@ -3,7 +3,6 @@
 import os
 import select
 import shutil
-import signal
 import socket
 import ssl
 import subprocess
@@ -12,7 +11,7 @@ import time
 from collections import Counter
 from contextlib import contextmanager, suppress
 
-from operators import read, renew, run
+from operators import read, renew, run, told, write
 from outside import descriptors_of, memory_of, raw, rest_of
 from shared import Client, FAKE, IS_CHECKED, LeftOut, OTHER, PORT, PROGRAM, is_open, proxy, request, said, until
 
@@ -217,22 +216,43 @@ def serial_of(folder):
 
 
 def try_tls_renew():
-    """SIGHUP has the certificates read again. A wrong one changes nothing, and clients stay connected."""
-    with certificates() as folder, run(folder, "--tls", *flags(folder)) as (process, log):
+    """SIGHUP has the certificates read again. If one is wrong, no setting changes, and clients stay connected."""
+    with certificates() as folder, run(folder, "--tls", *flags(folder), "--config", write(f"{folder}/conf", "")) as (process, log):
         old, serials = Encrypted(folder), [serial_of(folder)]
         make_certificate(folder, "proxy")
         renew(process, log)
         is_new = until(10, lambda: serial_of(folder) != serials[0])
         serials.append(serial_of(folder))
-        with open(f"{folder}/proxy.crt", "w") as file:
-            file.write("nothing")
-        process.send_signal(signal.SIGHUP)
-        is_told = until(10, lambda: "certificates stay" in read(log))
+        write(f"{folder}/proxy.crt", "nothing")
+        write(f"{folder}/conf", "password word\n")
+        text = renew(process, log)
         serials.append(serial_of(folder))
-        found = old.ask("SET", "foo", "1")
-    wrong = subprocess.run([PROGRAM, "--node", "x:1", "--tls", "--tls-cert", "/none"], capture_output=True, text=True)
-    print(serials, found, wrong)
-    return is_new is not None and is_told is not None and serials[1] == serials[2] and found == "+OK" and wrong.returncode == 2
+        found = old.ask("SET", "foo", "1"), Encrypted(folder).ask("GET", "foo")
+    print(serials, found, text)
+    is_told = f"TLS: {folder}/proxy.crt: error:" in text and "the settings stay as they are" in text and "read anew" not in text
+    return is_new is not None and is_told and serials[1] == serials[2] and found == ("+OK", b"1")
+
+
+def try_tls_check():
+    """--check reads the certificates, and finds the wrong ones that a start finds. It says which file is wrong."""
+    with certificates() as folder:
+        node = ["--check", "--node", "127.0.0.1:1"]
+        write(f"{folder}/empty", "")
+        wrong = {
+            ("--tls",): "TLS: tls needs tls-cert",
+            ("--tls", "--tls-cert", f"{folder}/none"): "/none: error:",
+            ("--tls", "--tls-cert", f"{folder}/proxy.crt"): "/proxy.crt: error:",  # it has no key
+            ("--tls", "--tls-cert", f"{folder}/proxy.crt", "--tls-key", f"{folder}/none"): "/none: error:",
+            ("--tls", "--tls-cert", f"{folder}/proxy.crt", "--tls-key", f"{folder}/node.key"): "/node.key: error:",
+            ("--tls", *flags(folder)[:4], "--tls-ca", f"{folder}/empty"): "/empty: error:",
+            ("--node-tls", "--tls-ca", f"{folder}/none"): "/none: error:",
+            ("--node-tls", *flags(folder, "empty")): "/empty.crt: error:",
+        }
+        found = {words: (told(*node, *words), told(*node[1:], *words)) for words in wrong}
+        right = [told(*node, *words) for words in (["--tls", *flags(folder)], ["--node-tls"], ["--node-tls", "--tls", *flags(folder), "--tls-auth-clients"])]
+    print(found, right)
+    is_told = all(it[0] == it[1] and it[0][:2] == (2, "") and wrong[words] in it[0][2] for words, it in found.items())
+    return is_told and right == [(0, "the settings are right\n", "")] * 3
 
 
 def try_open():

@@ -4,6 +4,7 @@ import os
 import re
 import shutil
 import signal
+import socket
 import socketserver
 import subprocess
 import tempfile
@@ -27,6 +28,7 @@ def read(path):
 def write(path, text):
     with open(path, "w") as file:
         file.write(text)
+    return path
 
 
 @contextmanager
@@ -76,6 +78,121 @@ def try_renew():
     is_told = "threads stays as it was" in texts[0] and "conf:3: memory is not a number" in texts[1] and "No such file" in texts[2]
     wanted = ["+OK", "-ERR Protocol error:", "-NOAUTH", "+OK", "-WRONGPASS", "+OK", "+OK", "-ERR AUTH"]
     return found == wanted and is_told and "stay" not in texts[3]
+
+
+def files(folder):
+    """Files of settings of which each has something wrong, and what is said of it."""
+    lines = {
+        "threads none": ":2: threads is not a number in its range",
+        "threads 65": ":2: threads is not a number in its range",
+        "memory 3xb": ":2: memory is not a number in its range",
+        "unix-mode 0690": ":2: unix-mode is not a number in its range",
+        "nodes 127.0.0.1:1": ":2: nodes is no setting",
+        "check yes": ":2: check is no setting",
+        "node here": ":2: node is not HOST:PORT",
+        "metrics 127.0.0.1:70000": ":2: metrics is not HOST:PORT",
+        "quiet maybe": ":2: quiet is neither yes nor no",
+        "node-user": ":2: node-user is empty",
+        f"password-file {folder}/none": ":2: password-file is no file with a line",
+        f"node-password-file {folder}/empty": ":2: node-password-file is no file with a line",
+        f"unix {folder}/{'x' * 108}": ":2: unix is too long",
+        "take GET": ":2: take is known already",
+        "take A.B\ntake a.b": ":3: take is named already",
+        "take a|b": ":2: take is not a command's name",
+        "\n".join(f"take name{it}" for it in range(1025)): ":1026: take is one name too many",
+        "\n".join(["node 127.0.0.1:1"] * 64): ":65: node is one node too many",
+    }
+    write(f"{folder}/empty", "")
+    for number, (text, wanted) in enumerate(lines.items()):
+        write(f"{folder}/{number}", f"node 127.0.0.1:1\n{text}\n")
+        yield ["--config", f"{folder}/{number}"], wanted
+
+
+def flags(folder):
+    """Flags of which one is wrong, and what is said of it."""
+    node, unknown = ["--node", "127.0.0.1:1"], f"{'x' * 70}:1"  # longer than a name can be, so no server is asked for it
+    yield [], "no node is named"
+    yield [*node, "--nodes", "x"], "--nodes is no flag"
+    yield [*node, "-t"], "-t is no flag"
+    yield [*node, "--timeout"], "--timeout has no value"
+    yield [*node, "--config"], "--config has no value"
+    yield [*node, "--timeout", "10"], "--timeout 10 is not a number in its range"
+    yield [*node, "--config", f"{folder}/none"], "/none: No such file or directory"
+    yield [*node, "--config", folder], f"{folder}: Is a directory"
+    yield [*node, "--log", f"{folder}/none/log"], "/none/log: No such file or directory"
+    yield [*node, "--log", folder], f"{folder}: Is a directory"
+    yield [*node, "--listen", unknown], f"{unknown}: "
+    yield [*node, "--metrics", unknown], f"{unknown}: "
+    yield [*node, "--unix", f"{folder}/none/socket"], "/none/socket: No such file or directory"
+    yield [*node, "--unix", f"{folder}/empty"], "/empty: the file is no socket"
+    yield [*node, "--tls"], "TLS: "  # there is no certificate, or the program has no TLS
+
+
+def try_renew_wrong():
+    """Each wrong setting is told at SIGHUP, with its line. Then all settings stay, and clients are served as before."""
+    wrong, unknown = [], f"{'x' * 70}:1"
+    with tempfile.TemporaryDirectory() as folder:
+        config = f"{folder}/conf"
+        more = {f"listen {unknown}": f"{unknown}: ", f"log {folder}/none/log": "/none/log: No such", f"unix {folder}/none/socket": "/none/socket: No such", "tls yes": "TLS: "}
+        cases = [(read(words[1]).replace("node 127.0.0.1:1", "password other", 1), f"stay as they are: {config}{wanted}") for words, wanted in files(folder)]
+        cases += [(f"password other\n{line}\n", wanted) for line, wanted in more.items()]
+        write(config, "password word\ntake A.B\n")
+        with run(folder, "--config", config) as (process, log):
+            for text, wanted in cases:
+                write(config, text)
+                said, client = renew(process, log), Client(OTHER)
+                found = client.ask("AUTH", "other")[:10], client.ask("AUTH", "word"), client.ask("SET", "foo", "1")
+                if wanted not in said or "stay as they are" not in said or "read anew" in said or found != ("-WRONGPASS", "+OK", "+OK"):
+                    wrong.append((wanted, said, found))
+            os.remove(config)
+            os.mkdir(config)
+            texts = [renew(process, log)]
+            os.rmdir(config)
+            write(config, "password word\ntake A.B\ntake A.C\n")
+            texts.append(renew(process, log))
+    print(len(cases), "cases;", wrong, *texts)
+    return not wrong and f"stay as they are: {config}: Is a directory" in texts[0] and "take stays as it was at the start" in texts[1] and "read anew" in texts[1]
+
+
+def told(*words):
+    """How the program ends, and what it writes, without the time."""
+    done = subprocess.run([PROGRAM, *words], capture_output=True, text=True, timeout=30)
+    return done.returncode, done.stdout, re.sub("(?m)^\\S+Z ", "", done.stderr)
+
+
+def try_check():
+    """--check finds each wrong setting that a start finds, with the same words and the same status."""
+    wrong = []
+    with tempfile.TemporaryDirectory() as folder:
+        cases = [*files(folder), *flags(folder)]
+        for words, wanted in cases:
+            found, started = told("--check", *words), told(*words or ["--quiet"])
+            if found != started or found[:2] != (2, "") or wanted not in found[2] or found[2].count("\n") != 1:
+                wrong.append((words, wanted, found, started))
+    print(len(cases), "cases;", wrong)
+    return not wrong
+
+
+def try_check_right():
+    """--check says that settings are right. It asks no node, makes no file, and leaves the sockets of a proxy that runs as they are."""
+    with tempfile.TemporaryDirectory() as folder, socketserver.TCPServer(("127.0.0.1", FAKE), None) as node:
+        node.timeout = 0.2
+        node.handle_timeout = lambda: asked.append("nobody")
+        asked, path, one = [], f"{folder}/socket", ["--node", f"127.0.0.1:{FAKE}"]
+        write(f"{folder}/secret", "word\n")
+        more = ["--listen", f"127.0.0.1:{OTHER}", "--metrics", f"127.0.0.1:{OTHER_FIGURES}", "--unix", path, "--password-file", f"{folder}/secret"]
+        with proxy(OTHER, PORT, *more):
+            found = [told("--check", *one), told(*one, *more, "--log", f"{folder}/log", "--check"), told("--check", *one, "--log", "/dev/null")]
+            found.append(told("--check", "--config", f"{ROOT}/packaging/slotroute-proxy.conf"))
+            node.handle_request()
+            with socket.socket(socket.AF_UNIX) as client:
+                client.connect(path)
+                client.sendall(b"PING\r\n")
+                answer = client.recv(100)
+            is_open(OTHER)
+        made = sorted(os.listdir(folder))
+    print(found, asked, answer, made)
+    return found == [(0, "the settings are right\n", "")] * 4 and asked == ["nobody"] and answer.startswith(b"-NOAUTH") and made == ["secret"]
 
 
 def try_signals():
