@@ -1,6 +1,7 @@
 """What client libraries of Debian do."""
 
 import os
+import shutil
 import subprocess
 
 from notifications import tell_keys
@@ -117,7 +118,7 @@ echo "as wanted\n";
 
 def try_php():
     """The package php-redis does so, too."""
-    if subprocess.run(["php", "-r", "exit(extension_loaded('redis') ? 0 : 1);"], capture_output=True).returncode != 0:
+    if shutil.which("php") is None or subprocess.run(["php", "-r", "exit(extension_loaded('redis') ? 0 : 1);"]).returncode != 0:
         raise LeftOut("the package php-redis is not installed")
     return runs("php", "-r", PHP.replace("{port}", str(PROXY)))
 
