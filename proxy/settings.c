@@ -80,15 +80,29 @@ static const char *keep(const char *text) {
     return strcpy(it->text, text);
 }
 
-/* The first line of a file, or NULL. */
-static const char *read_secret(const char *path) {
-    static char line[LONGEST_SECRET];
+static const char *set_text(text *field, const row *row, const char *value) {
+    if (row->most != 0 && strlen(value) > row->most)
+        return "is too long";
+    *field = keep(value);
+    return *value == 0 ? "is empty" : NULL;
+}
+
+/* Sets the first line of a file. */
+static const char *set_secret(text *field, const char *path) {
+    static char line[LONGEST_SECRET], wrong[120];
+    errno = 0;
     FILE *file = fopen(path, "r");
-    const char *found = file == NULL ? NULL : fgets(line, sizeof line, file);
+    bool is_read = file != NULL && fgets(line, sizeof line, file) != NULL;
+    const char *cause = is_read ? "it is too long" : errno != 0 ? strerror(errno) : "it is empty";
     if (file != NULL)
         fclose(file);
+    if (!is_read || strlen(line) == sizeof line - 1) {
+        snprintf(wrong, sizeof wrong, "is no file with a line: %s", cause);
+        return wrong;
+    }
     line[strcspn(line, "\r\n")] = 0;
-    return found;
+    *field = keep(line);
+    return *line == 0 ? "is empty" : NULL;
 }
 
 /* Reads a number, for a size with a unit. */
@@ -121,15 +135,6 @@ static bool is_address(const char *value) {
     return *end == 0 && port > 0 && port < 65536;
 }
 
-static const char *set_text(text *field, const row *row, const char *value) {
-    if (value == NULL)
-        return "is no file with a line";
-    if (row->most != 0 && strlen(value) > row->most)
-        return "is too long";
-    *field = keep(value);
-    return *value == 0 ? "is empty" : NULL;
-}
-
 static const char *add_seed(settings *settings, const char *value) {
     if (settings->seed_count == MOST_SEEDS)
         return "is one node too many";
@@ -159,8 +164,10 @@ static const char *set(settings *settings, const row *row, const char *value) {
         return add_seed(settings, value);
     if (row->kind == NAME)
         return add_name(settings, value);
-    if (row->kind <= SECRET)
-        return set_text(field, row, row->kind == SECRET ? read_secret(value) : value);
+    if (row->kind == SECRET)
+        return set_secret(field, value);
+    if (row->kind < SECRET)
+        return set_text(field, row, value);
     if (row->kind == SWITCH) {
         *(number *)field = strcmp(value, "yes") == 0;
         return strcmp(value, "yes") == 0 || strcmp(value, "no") == 0 ? NULL : "is neither yes nor no";

@@ -93,8 +93,11 @@ def files(folder):
         "metrics 127.0.0.1:70000": ":2: metrics is not HOST:PORT",
         "quiet maybe": ":2: quiet is neither yes nor no",
         "node-user": ":2: node-user is empty",
-        f"password-file {folder}/none": ":2: password-file is no file with a line",
-        f"node-password-file {folder}/empty": ":2: node-password-file is no file with a line",
+        f"password-file {folder}/none": ":2: password-file is no file with a line: No such file",
+        f"node-password-file {folder}/empty": ":2: node-password-file is no file with a line: it is empty",
+        f"password-file {folder}": ":2: password-file is no file with a line: Is a directory",
+        f"password-file {folder}/long": ":2: password-file is no file with a line: it is too long",
+        f"password-file {folder}/blank": ":2: password-file is empty",
         f"unix {folder}/{'x' * 108}": ":2: unix is too long",
         "take GET": ":2: take is known already",
         "take A.B\ntake a.b": ":3: take is named already",
@@ -102,7 +105,8 @@ def files(folder):
         "\n".join(f"take name{it}" for it in range(1025)): ":1026: take is one name too many",
         "\n".join(["node 127.0.0.1:1"] * 64): ":65: node is one node too many",
     }
-    write(f"{folder}/empty", "")
+    for name, text in {"empty": "", "blank": "\n", "long": "x" * 5000}.items():
+        write(f"{folder}/{name}", text)
     for number, (text, wanted) in enumerate(lines.items()):
         write(f"{folder}/{number}", f"node 127.0.0.1:1\n{text}\n")
         yield ["--config", f"{folder}/{number}"], wanted
