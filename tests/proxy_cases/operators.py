@@ -291,9 +291,9 @@ def try_counts():
         client.ask_all([["SET", "foo", "1"], ["GET", "foo"], ["get", "foo"], ["LPUSH", "foo", "1"], ["SCRIPT", "EXISTS", "x"], ["DEL", "foo"]])
         client.ask_all([["MONITOR"], ["monitor"], ['A"\\\n{}'], *([f"NAME{it}"] for it in range(500))])
         Client(OTHER).ask("MONITOR")  # at the other thread
-        time.sleep(0.1)
+        node = f'{{node="127.0.0.1:{port_of("foo")}"}}'
+        until(5, lambda: (found := figures(OTHER_FIGURES))[f"node_open_connections{node}"] and not found[f"node_in_flight{node}"])
         found = figures(OTHER_FIGURES)
-    node = f'{{node="127.0.0.1:{port_of("foo")}"}}'
     of_node = {it: found[f"{it}{node}"] for it in ("node_errors_total", "node_in_flight", "node_up", "node_open_connections", "node_connections_ended_total")}
     commands = {it: found.get(f'command_calls_total{{command="{it}"}}') for it in ("SET", "GET", "LPUSH", "SCRIPT|EXISTS", "MONITOR", "(unknown)")}
     refused = {it: value for it, value in found.items() if it.startswith("refused_total")}
