@@ -4,8 +4,8 @@
 
 #include "proxy.h"
 
-/* Whether clients could connect to what the settings name, as far as can be seen without a socket. If not, the
- * log says why. */
+/* Whether clients could connect to what the settings name, as far as this shows without a socket. If not,
+ * the log says why. */
 bool listeners_are_right(const settings *settings);
 
 /* Opens what the settings name. False if something is not free. */
