@@ -9,8 +9,9 @@ use Rattle.std.proofs.lemmas.Bool.{eqb-true, cases_lt}
 use Rattle.std.proofs.lemmas.Bool.Decides.{nat_tests}
 use Rattle.resp_core.proofs.Cases.{by_test, and_first, and_second}
 use Rattle.session_core.specs.Channel.{Channel}
+use Rattle.session_core.specs.LinkEvents as link
 use Rattle.session_core.specs.Part.{PartState, Phase, is_done}
-use Rattle.session_core.specs.State.{CallState, State, Event, Begin, Leave, Trim, begun, call_at, numbered, call_after, left_call, unwants, phase_after, May, after, IsTurn}
+use Rattle.session_core.specs.State.{CallState, State, Event, Begin, Leave, Trim, begun, call_at, numbered, call_after, left_call, unwants, phase_after, MayBy, MayLeave, after, IsTurn}
 use Rattle.session_core.proofs.PlaceLists.{get_before, at_index, get_first_dropped}
 
 -- ---- lists
@@ -160,7 +161,7 @@ goes_all e call c d is = record {
 pub same_call : (a b : CallState) → Some a ≡ Some b → a ≡ b
 same_call a b e = cc
 
-left_at : (m call : ℕ) (s : State) (c : CallState) → call_at call s ≡ Some c → (may : May (Leave m) s) → Outcome (Leave m) call s c (call_at call (after (Leave m) s))
+left_at : (m call : ℕ) (s : State) (c : CallState) → call_at call s ≡ Some c → (may : MayLeave m s) → Outcome (Leave m) call s c (call_at call (after (Leave m) s))
 left_at m call s c e may =
     let is = changed_call (call_after (Leave m)) s (after (Leave m) s).links call c e in
     by_test (eqb m call)
@@ -175,7 +176,7 @@ left_at m call s c e may =
     }))
     (λ k. inl (c, rw k at is, goes_same (Leave m) call c (λ q p. refl) refl))
 
-trimmed_at : (call : ℕ) (s : State) (c : CallState) → call_at call s ≡ Some c → (may : May Trim s) → Outcome Trim call s c (call_at call (after Trim s))
+trimmed_at : (call : ℕ) (s : State) (c : CallState) → call_at call s ≡ Some c → (may : (more : List CallState) × (s.calls ≡ left_call ∷ more)) → Outcome Trim call s c (call_at call (after Trim s))
 trimmed_at call s c e may =
     let h = not_forgotten call s c e in
     by_test (eqb call s.first)
@@ -205,11 +206,11 @@ begun_at n caller parts call s c e =
     call_is call (after (Begin n caller parts) s) h ∙ get_before s.calls _ (call - s.first) (omega (arith, h, w)) ∙ sym (call_is call s h) ∙ e
 
 -- what becomes of a call
-pub call_goes : (e : Event) (call : ℕ) (s : State) (c : CallState) → May e s → call_at call s ≡ Some c → Outcome e call s c (call_at call (after e s))
-call_goes (Begin n caller parts) call s c may e = inl (c, begun_at n caller parts call s c e, goes_same (Begin n caller parts) call c (λ q p. refl) refl)
-call_goes (Leave n) call s c may e = left_at n call s c e may
-call_goes Trim call s c may e = trimmed_at call s c e may
-call_goes e call s c may is = inl (_, changed_call (call_after e) s (after e s).links call c is, goes_all e call c _ refl)
+pub call_goes : (rules : link.Event → Channel → Type 0) (e : Event) (call : ℕ) (s : State) (c : CallState) → MayBy rules e s → call_at call s ≡ Some c → Outcome e call s c (call_at call (after e s))
+call_goes rules (Begin n caller parts) call s c may e = inl (c, begun_at n caller parts call s c e, goes_same (Begin n caller parts) call c (λ q p. refl) refl)
+call_goes rules (Leave n) call s c may e = left_at n call s c e may
+call_goes rules Trim call s c may e = trimmed_at call s c e may
+call_goes rules e call s c may is = inl (_, changed_call (call_after e) s (after e s).links call c is, goes_all e call c _ refl)
 
 -- a call that begins
 pub begins : (call caller : ℕ) (parts : List PartState) (s : State) → call ≡ begun s → call_at call (after (Begin call caller parts) s) ≡ Some (record { caller = caller; parts = parts; is_wanted = true })
@@ -220,25 +221,25 @@ abbrev pub new_calls : Event → ℕ
 new_calls (Begin n caller parts) = 1
 new_calls other = 0
 
-pub begun_after : (e : Event) (s : State) → May e s → begun (after e s) ≡ begun s + new_calls e
-begun_after (Begin n caller parts) s may = omega (arith, length-append s.calls (record { caller = caller; parts = parts; is_wanted = true } ∷ []))
-begun_after Trim s may =
+pub begun_after : (rules : link.Event → Channel → Type 0) (e : Event) (s : State) → MayBy rules e s → begun (after e s) ≡ begun s + new_calls e
+begun_after rules (Begin n caller parts) s may = omega (arith, length-append s.calls (record { caller = caller; parts = parts; is_wanted = true } ∷ []))
+begun_after rules Trim s may =
     omega (arith, ap length may.1, length-drop 1 s.calls)
-begun_after e s may = omega (arith, length-numbered (call_after e) s.first s.calls)
+begun_after rules e s may = omega (arith, length-numbered (call_after e) s.first s.calls)
 
 pub first_more : (e : Event) (s : State) → s.first ≤ (after e s).first
 first_more Trim s = omega arith
 first_more e s = omega arith
 
 -- A call that is there after an event and had begun before was there before.
-pub call_came : (e : Event) (call : ℕ) (s : State) (d : CallState) → May e s → call < begun s → call_at call (after e s) ≡ Some d → ((c : CallState) × (call_at call s ≡ Some c) × Goes e call c d) ⊎ (d ≡ left_call)
-call_came e call s d may old now = elim (cases_lt call s.first) [
+pub call_came : (rules : link.Event → Channel → Type 0) (e : Event) (call : ℕ) (s : State) (d : CallState) → MayBy rules e s → call < begun s → call_at call (after e s) ≡ Some d → ((c : CallState) × (call_at call s ≡ Some c) × Goes e call c d) ⊎ (d ≡ left_call)
+call_came rules e call s d may old now = elim (cases_lt call s.first) [
   | inl gone ↦ let none : None ≡ Some d = sym (no_call call (after e s) (omega (arith, gone, first_more e s))) ∙ now in absurd (cc)
   | inr here ↦
       let within : call - s.first < length s.calls = omega (arith, old, here) in
       let c = at_index s.calls (call - s.first) within in
       let is : call_at call s ≡ Some c.0 = call_is call s here ∙ c.1 in
-      elim (call_goes e call s c.0 may is) [
+      elim (call_goes rules e call s c.0 may is) [
         | inl goes ↦ inl (c.0, is, subst (Goes e call c.0) (same_call goes.0 d (sym goes.1 ∙ now)) goes.2)
         | inr away ↦ elim away.away [
           | inl none ↦ let no : None ≡ Some d = sym none ∙ now in absurd (cc)
@@ -248,13 +249,13 @@ call_came e call s d may old now = elim (cases_lt call s.first) [
 ]
 
 -- A call that is there after an event and had not begun before begins with it.
-pub call_new : (e : Event) (call : ℕ) (s : State) (d : CallState) → May e s → begun s ≤ call → call_at call (after e s) ≡ Some d
+pub call_new : (rules : link.Event → Channel → Type 0) (e : Event) (call : ℕ) (s : State) (d : CallState) → MayBy rules e s → begun s ≤ call → call_at call (after e s) ≡ Some d
     → (caller : ℕ) × (parts : List PartState) × (e ≡ Begin call caller parts) × (d ≡ record { caller = caller; parts = parts; is_wanted = true })
-call_new (Begin n caller parts) call s d may new now =
-    let same : n ≡ call = omega (arith, may.0, new, has_begun call (after (Begin n caller parts) s) d now, begun_after (Begin n caller parts) s may) in (
+call_new rules (Begin n caller parts) call s d may new now =
+    let same : n ≡ call = omega (arith, may.0, new, has_begun call (after (Begin n caller parts) s) d now, begun_after rules (Begin n caller parts) s may) in (
       caller,
       parts,
       ap (λ m. Begin m caller parts) same,
       same_call d _ (sym now ∙ ap (λ m. call_at m (after (Begin n caller parts) s)) (sym same) ∙ begins n caller parts s may.0),
     )
-call_new e call s d may new now = absurd (omega (arith, new, has_begun call (after e s) d now, begun_after e s may))
+call_new rules e call s d may new now = absurd (omega (arith, new, has_begun call (after e s) d now, begun_after rules e s may))

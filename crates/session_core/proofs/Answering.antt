@@ -12,8 +12,8 @@ use Rattle.session_core.specs.Channel.{Ask}
 use Rattle.session_core.specs.LinkEvents as link
 use Rattle.session_core.specs.Part.{PartState, Phase, Waits, Answered, Lost, Unsent, is_waiting, is_refusal, phase_asked, phase_told, phase_lost, phase_ended}
 use Rattle.session_core.specs.Part as part
-use Rattle.session_core.specs.State.{State, Event, On, Begin, GiveUp, End, start, begun, call_at, part_at, is_part, asks, phase_after, May, after, Run}
-use Rattle.session_core.specs.History.{CallPart, Began, Step, Asked, step_of, steps, WasTaken, WasAsked}
+use Rattle.session_core.specs.State.{State, Event, On, Begin, GiveUp, End, start, begun, call_at, part_at, is_part, asks, phase_after, MayBy, after, RunBy}
+use Rattle.session_core.specs.History.{AsQueue, CallPart, Began, Step, Asked, step_of, steps, WasTaken, WasAsked}
 use Rattle.session_core.proofs.Runs.{always}
 use Rattle.session_core.proofs.AfterEvents.{nothing_in, only_one, in_phase, all_at, seen, call_came, begins}
 use Rattle.session_core.proofs.Waiting.{is_ticket, part_is, same_part, none_there, that_waits}
@@ -80,11 +80,11 @@ answer_from call part e wanted p reply h = inl h
 -- ---- whole runs
 
 -- a part that is there after an event, and whose call had begun
-part_came : (e : Event) (call part : ℕ) (s : State) (p : PartState) → May e s → call < begun s → part_at call part (after e s) ≡ Some p
+part_came : (e : Event) (call part : ℕ) (s : State) (p : PartState) → MayBy AsQueue e s → call < begun s → part_at call part (after e s) ≡ Some p
     → (old : PartState) × (wanted : Bool) × (part_at call part s ≡ Some old) × (p.phase ≡ phase_after call part e wanted old)
 part_came e call part s p may bound at = elim (seen (call_at call (after e s))) [
   | inl none ↦ let two : None ≡ Some p = sym (none_there part call (after e s) (inl none)) ∙ at in absurd (cc)
-  | inr d ↦ elim (call_came e call s d.0 may bound d.1) [
+  | inr d ↦ elim (call_came AsQueue e call s d.0 may bound d.1) [
     | inr left ↦ let two : None ≡ Some p = sym (none_there part call (after e s) (inr (d.1 ∙ ap Some left))) ∙ at in absurd (cc)
     | inl c ↦
         let now : option_map (λ q. in_phase q (phase_after call part e c.0.is_wanted q)) (slice_get c.0.parts part) ≡ Some p = sym (c.2.parts part) ∙ sym (ap (option_and_then (λ x. slice_get x.parts part)) d.1) ∙ at in
@@ -109,7 +109,7 @@ none_of None st h = (refl, h)
 none_of (Some x) st h = absurd (cc)
 
 -- a part that just began waits
-just_began : (seat : CallPart) (s : State) (parts : List PartState) → May (Begin seat.call seat.caller parts) s → slice_get parts seat.part ≡ Some seat.began → (p : PartState) (reply : List ℕ)
+just_began : (seat : CallPart) (s : State) (parts : List PartState) → MayBy AsQueue (Begin seat.call seat.caller parts) s → slice_get parts seat.part ≡ Some seat.began → (p : PartState) (reply : List ℕ)
     → part_at seat.call seat.part (after (Begin seat.call seat.caller parts) s) ≡ Some p → p.phase ≡ Answered reply → ⊥
 just_began seat s parts may is p reply at answer =
     let there = ap (option_and_then (λ x. slice_get x.parts seat.part)) (begins seat.call seat.caller parts s may.0) ∙ is in
@@ -127,8 +127,8 @@ began_cases seat es e b = elim (Contains-push_cases es e (Begin seat.call seat.c
   | inr now ↦ inr (b.parts, now, b.part_is)
 ]
 
-pub was_taken : (seat : CallPart) (reply : List ℕ) (events : List Event) (s : State) (p : PartState) → Run start events s → Began events seat → part_at seat.call seat.part s ≡ Some p → p.phase ≡ Answered reply → WasTaken seat reply events
-was_taken seat reply events s p run began at is = always (λ es t. Began es seat → (q : PartState) → part_at seat.call seat.part t ≡ Some q → q.phase ≡ Answered reply → WasTaken seat reply es)
+pub was_taken : (seat : CallPart) (reply : List ℕ) (events : List Event) (s : State) (p : PartState) → RunBy AsQueue start events s → Began events seat → part_at seat.call seat.part s ≡ Some p → p.phase ≡ Answered reply → WasTaken seat reply events
+was_taken seat reply events s p run began at is = always AsQueue (λ es t. Began es seat → (q : PartState) → part_at seat.call seat.part t ≡ Some q → q.phase ≡ Answered reply → WasTaken seat reply es)
     (λ b. absurd (nothing_in _ b.began))
     (λ es e t reached may old b q here answer. elim (began_cases seat es e b) [
       | inl before ↦
@@ -142,7 +142,7 @@ was_taken seat reply events s p run began at is = always (λ es t. Began es seat
               ran = ap (λ (x : PartState). is_refusal x reply) (sym (as_begun seat es t came.0 h came.2)) ∙ now.2;
             }
           ]
-      | inr now ↦ absurd (just_began seat t now.0 (subst (λ x. May x t) now.1 may) now.2 q reply (ap (λ x. part_at seat.call seat.part (after x t)) (sym now.1) ∙ here) answer)
+      | inr now ↦ absurd (just_began seat t now.0 (subst (λ x. MayBy AsQueue x t) now.1 may) now.2 q reply (ap (λ x. part_at seat.call seat.part (after x t)) (sym now.1) ∙ here) answer)
     ])
     events s run began p at is
 
@@ -166,14 +166,14 @@ no_steps seat (x ∷ es) e h there = elim (Contains-append_cases (x ∷ []) es e
   | inr later ↦ no_steps seat es e (none_of (step_of seat x) (steps seat es) h).1 later
 ]
 
-pub was_asked : (seat : CallPart) (request : List ℕ) (events : List Event) (s : State) → Run start events s → Began events seat → WasAsked seat request events → request ≡ seat.began.request
-was_asked seat request events s run began asked = always (λ es t. Began es seat → WasAsked seat request es → request ≡ seat.began.request)
+pub was_asked : (seat : CallPart) (request : List ℕ) (events : List Event) (s : State) → RunBy AsQueue start events s → Began events seat → WasAsked seat request events → request ≡ seat.began.request
+was_asked seat request events s run began asked = always AsQueue (λ es t. Began es seat → WasAsked seat request es → request ≡ seat.began.request)
     (λ b. absurd (nothing_in _ b.began))
     (λ es e t reached may old b w. elim (Contains-push_cases es e (On w.number (link.Put w.requests)) w.put) [
       | inl before ↦ elim (began_cases seat es e b) [
         | inl so ↦ old so (record { number = w.number; requests = w.requests; put = before; among = w.among })
         | inr now ↦
-            let none = unbegun seat es t reached (let first = (subst (λ x. May x t) now.1 may).0 in omega (arith, first)) in
+            let none = unbegun seat es t reached (let first = (subst (λ x. MayBy AsQueue x t) now.1 may).0 in omega (arith, first)) in
             let step : step_of seat (On w.number (link.Put w.requests)) ≡ Some (Asked w.number) = rw (contains_asks seat.call seat.part w.requests request w.among) refl in
             let two : None ≡ Some (Asked w.number) = sym (no_steps seat es _ none before) ∙ step in
             absurd (cc)
@@ -181,7 +181,7 @@ was_asked seat request events s run began asked = always (λ es t. Began es seat
       | inr now ↦ elim (began_cases seat es e b) [
         | inl so ↦
             let h = stands seat es t reached so in
-            let ask = (subst (λ x. May x t) now may).may_put seat.call seat.part request w.among in
+            let ask = (subst (λ x. MayBy AsQueue x t) now may).may_put seat.call seat.part request w.among in
             sym ask.request_is ∙ ap (λ (p : PartState). p.request) (asked_here seat es t h w.number request ask).1
         | inr begins ↦ let two : Begin seat.call seat.caller begins.0 ≡ On w.number (link.Put w.requests) = sym begins.1 ∙ now in absurd (cc)
       ]

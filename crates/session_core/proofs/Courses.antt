@@ -6,8 +6,8 @@ use Rattle.std.proofs.lemmas.List.{append-nil}
 use Rattle.std.proofs.lemmas.List.Elements.{filter_map-append, Contains-push_cases}
 use Rattle.session_core.specs.LinkEvents as link
 use Rattle.session_core.specs.Part.{PartState, Phase, Waits, is_waiting, is_done}
-use Rattle.session_core.specs.State.{CallState, State, Event, On, Begin, start, begun, call_at, part_at, phase_after, left_call, May, Has, IsTurn, after, Run}
-use Rattle.session_core.specs.History.{CallPart, Began, Step, step_of, steps, AreTries}
+use Rattle.session_core.specs.State.{CallState, State, Event, On, Begin, start, begun, call_at, part_at, phase_after, left_call, MayBy, Has, IsTurn, after, RunBy}
+use Rattle.session_core.specs.History.{AsQueue, CallPart, Began, Step, step_of, steps, AreTries}
 use Rattle.session_core.proofs.Runs.{always}
 use Rattle.session_core.proofs.AfterEvents.{nothing_in, in_phase, all_at, seen, not_begun, begun_after, same_call, call_goes, call_came, begins}
 use Rattle.session_core.proofs.Waiting.{IsSingle, single, part_is, same_part, none_there, touches, untouched, IsIdle, that_waits}
@@ -29,10 +29,10 @@ no_step seat (On m (link.Lose ticket begun)) h = rw h refl
 no_step seat e h = refl
 
 -- nothing happens to a part before its call begins
-pub unbegun : (seat : CallPart) (events : List Event) (s : State) → Run start events s → begun s ≤ seat.call → steps seat events ≡ []
-unbegun seat events s run = always (λ es t. begun t ≤ seat.call → steps seat es ≡ []) (λ h. refl)
+pub unbegun : (seat : CallPart) (events : List Event) (s : State) → RunBy AsQueue start events s → begun s ≤ seat.call → steps seat events ≡ []
+unbegun seat events s run = always AsQueue (λ es t. begun t ≤ seat.call → steps seat es ≡ []) (λ h. refl)
     (λ es e t reached may holds new.
-    let old : begun t ≤ seat.call = omega (arith, new, begun_after e t may) in
+    let old : begun t ≤ seat.call = omega (arith, new, begun_after AsQueue e t may) in
     let idle : IsIdle seat.call seat.part t = λ p at. (let z : None ≡ Some p = sym (none_there seat.part seat.call t (inl (not_begun seat.call t old))) ∙ at in absurd (cc)) in
     steps_more seat es e ∙ ap (λ o. with_step o (steps seat es)) (no_step seat e (untouched seat.call seat.part e t (single es t reached) may idle)) ∙ holds old)
     events s run
@@ -58,16 +58,16 @@ pub record Stands (seat : CallPart) (es : List Event) (s : State) : Type 0 where
   pub here : IsHere seat phase s
   pub knows : Knows seat.began.phase (steps seat es) phase
 
-turn_after : (caller call : ℕ) (e : Event) (s : State) → May e s → call < begun s → IsTurn s caller call → IsTurn (after e s) caller call
-turn_after caller call e s may bound turn = λ n d lt is own. elim (call_came e n s d may (omega (arith, lt, bound)) is) [
+turn_after : (caller call : ℕ) (e : Event) (s : State) → MayBy AsQueue e s → call < begun s → IsTurn s caller call → IsTurn (after e s) caller call
+turn_after caller call e s may bound turn = λ n d lt is own. elim (call_came AsQueue e n s d may (omega (arith, lt, bound)) is) [
   | inl c ↦
       let old : c.0.is_wanted ≡ false = turn n c.0 lt c.1 (sym c.2.caller ∙ own) in
       c.2.wanted ∙ rw old refl
   | inr left ↦ ap (λ (x : CallState). x.is_wanted) left
 ]
 
-unwanted_after : (call : ℕ) (e : Event) (s : State) → May e s → call < begun s → IsUnwanted call s → IsUnwanted call (after e s)
-unwanted_after call e s may bound none = λ d is. elim (call_came e call s d may bound is) [
+unwanted_after : (call : ℕ) (e : Event) (s : State) → MayBy AsQueue e s → call < begun s → IsUnwanted call s → IsUnwanted call (after e s)
+unwanted_after call e s may bound none = λ d is. elim (call_came AsQueue e call s d may bound is) [
   | inl c ↦
       let old : c.0.is_wanted ≡ false = none c.0 c.1 in
       c.2.wanted ∙ rw old refl
@@ -83,10 +83,10 @@ unwanted_gone call s away = λ d is. elim away [
 part_of : (part : ℕ) (s : State) (call : ℕ) (c : CallState) → call_at call s ≡ Some c → part_at call part s ≡ slice_get c.parts part
 part_of part s call c is = ap (option_and_then (λ x. slice_get x.parts part)) is
 
-away_after : (call part : ℕ) (e : Event) (s : State) → May e s → call < begun s → part_at call part s ≡ None → part_at call part (after e s) ≡ None
+away_after : (call part : ℕ) (e : Event) (s : State) → MayBy AsQueue e s → call < begun s → part_at call part s ≡ None → part_at call part (after e s) ≡ None
 away_after call part e s may bound none = elim (seen (call_at call (after e s))) [
   | inl gone ↦ none_there part call (after e s) (inl gone)
-  | inr d ↦ elim (call_came e call s d.0 may bound d.1) [
+  | inr d ↦ elim (call_came AsQueue e call s d.0 may bound d.1) [
     | inl c ↦ part_of part (after e s) call d.0 d.1 ∙ c.2.parts part ∙ ap (option_map (λ p. in_phase p (phase_after call part e c.0.is_wanted p))) (sym (part_of part s call c.0 c.1) ∙ none)
     | inr left ↦ none_there part call (after e s) (inr (d.1 ∙ ap Some left))
   ]
@@ -99,18 +99,18 @@ knows_on : (seat : CallPart) (es : List Event) (e : Event) (f g : Phase) → Mov
 knows_on seat es e f g move h = subst (λ st. Knows seat.began.phase st g) (sym (steps_more seat es e)) (knows_more seat.began.phase (steps seat es) (step_of seat e) f g move h)
 
 -- a part that is done or away is not touched, and stays as it is
-knows_same : (seat : CallPart) (es : List Event) (e : Event) (s : State) (f : Phase) → IsSingle s → May e s → IsIdle seat.call seat.part s → Knows seat.began.phase (steps seat es) f → Knows seat.began.phase (steps seat (es ++ e ∷ [])) f
+knows_same : (seat : CallPart) (es : List Event) (e : Event) (s : State) (f : Phase) → IsSingle s → MayBy AsQueue e s → IsIdle seat.call seat.part s → Knows seat.began.phase (steps seat es) f → Knows seat.began.phase (steps seat (es ++ e ∷ [])) f
 knows_same seat es e s f one may idle h =
     let none = no_step seat e (untouched seat.call seat.part e s one may idle) in
     subst (λ st. Knows seat.began.phase st f) (sym (steps_more seat es e ∙ ap (λ o. with_step o (steps seat es)) none)) h
 
-stands_after : (seat : CallPart) (es : List Event) (e : Event) (s : State) → IsSingle s → May e s → Stands seat es s → Stands seat (es ++ e ∷ []) (after e s)
+stands_after : (seat : CallPart) (es : List Event) (e : Event) (s : State) → IsSingle s → MayBy AsQueue e s → Stands seat es s → Stands seat (es ++ e ∷ []) (after e s)
 stands_after seat es e s one may h =
-    let bound : seat.call < begun (after e s) = omega (arith, h.bound, begun_after e s may) in
+    let bound : seat.call < begun (after e s) = omega (arith, h.bound, begun_after AsQueue e s may) in
     elim h.here [
       | inl has ↦
           let at = part_is seat.caller seat.call seat.part s (in_phase seat.began h.phase) has in
-          elim (call_goes e seat.call s has.state may has.call_is) [
+          elim (call_goes AsQueue e seat.call s has.state may has.call_is) [
             | inl d ↦ record {
               phase = phase_after seat.call seat.part e has.state.is_wanted (in_phase seat.began h.phase);
               bound = bound;
@@ -150,14 +150,14 @@ stands_after seat es e s one may h =
     ]
 
 -- a call that begins now
-stands_new : (seat : CallPart) (es : List Event) (parts : List PartState) (s : State) → Run start es s → May (Begin seat.call seat.caller parts) s → slice_get parts seat.part ≡ Some seat.began
+stands_new : (seat : CallPart) (es : List Event) (parts : List PartState) (s : State) → RunBy AsQueue start es s → MayBy AsQueue (Begin seat.call seat.caller parts) s → slice_get parts seat.part ≡ Some seat.began
     → Stands seat (es ++ Begin seat.call seat.caller parts ∷ []) (after (Begin seat.call seat.caller parts) s)
 stands_new seat es parts s reached may is =
     let w = that_waits seat.began.phase (all_at (λ p. is_waiting p.phase) parts seat.part seat.began may.1 is) in
     let none : steps seat (es ++ Begin seat.call seat.caller parts ∷ []) ≡ [] = steps_more seat es (Begin seat.call seat.caller parts) ∙ unbegun seat es s reached (omega (arith, may.0)) in
     record {
       phase = seat.began.phase;
-      bound = omega (arith, may.0, begun_after (Begin seat.call seat.caller parts) s may);
+      bound = omega (arith, may.0, begun_after AsQueue (Begin seat.call seat.caller parts) s may);
       here = inl (record {
         state = record { caller = seat.caller; parts = parts; is_wanted = true };
         call_is = begins seat.call seat.caller parts s may.0;
@@ -168,15 +168,15 @@ stands_new seat es parts s reached may is =
     }
 
 -- how far a part is, whatever has happened since its call began
-pub stands : (seat : CallPart) (events : List Event) (s : State) → Run start events s → Began events seat → Stands seat events s
-stands seat events s run began = always (λ es t. Began es seat → Stands seat es t) (λ b. absurd (nothing_in _ b.began))
+pub stands : (seat : CallPart) (events : List Event) (s : State) → RunBy AsQueue start events s → Began events seat → Stands seat events s
+stands seat events s run began = always AsQueue (λ es t. Began es seat → Stands seat es t) (λ b. absurd (nothing_in _ b.began))
     (λ es e t reached may holds b. elim (Contains-push_cases es e (Begin seat.call seat.caller b.parts) b.began) [
       | inl old ↦ stands_after seat es e t (single es t reached) may (holds (record { parts = b.parts; began = old; part_is = b.part_is }))
-      | inr now ↦ subst (λ x. Stands seat (es ++ x ∷ []) (after x t)) (sym now) (stands_new seat es b.parts t reached (subst (λ x. May x t) now may) b.part_is)
+      | inr now ↦ subst (λ x. Stands seat (es ++ x ∷ []) (after x t)) (sym now) (stands_new seat es b.parts t reached (subst (λ x. MayBy AsQueue x t) now may) b.part_is)
     ])
     events s run began
 
-pub tries : (seat : CallPart) (left : ℕ) (events : List Event) (s : State) → Run start events s → Began events seat → seat.began.phase ≡ Waits left → AreTries left (steps seat events)
+pub tries : (seat : CallPart) (left : ℕ) (events : List Event) (s : State) → RunBy AsQueue start events s → Began events seat → seat.began.phase ≡ Waits left → AreTries left (steps seat events)
 tries seat left events s run began is =
     let h = (stands seat events s run began).knows in
     let most : budget seat.began.phase ≡ left + 1 = ap budget is in

@@ -178,26 +178,19 @@ a_history = Open 0 100 ∷ Begin 0 7 (set_1 ∷ []) ∷ Begin 1 7 (set_2 ∷ [])
 -- Both calls are told what may have happened while their parts are on their way, in their order.
 a_run : Run start a_history finished_2
 a_run = (
-  opened,
-  record { may = (omega arith, λ c is. cc); is = refl },
+  (omega arith, λ c is. cc),
   (
-    begun_1,
-    record { may = (refl, refl, one_apart set_1); is = refl },
+    (refl, refl, one_apart set_1),
     (
-      begun_2,
-      record { may = (refl, refl, one_apart set_2); is = refl },
+      (refl, refl, one_apart set_2),
       (
-        asked_1,
-        record { may = record { channel = _; link_is = refl; may = (refl, ((λ e. cc), omega arith)); may_put = part_alone begun_2 0 0 0 (codes "SET a 1") may_put_1 }; is = refl },
+        record { channel = _; link_is = refl; may = (refl, ((λ e. cc), omega arith)); may_put = part_alone begun_2 0 0 0 (codes "SET a 1") may_put_1 },
         (
-          asked_2,
-          record { may = record { channel = _; link_is = refl; may = (refl, ((λ e. cc), omega arith)); may_put = part_alone asked_1 0 1 0 (codes "SET a 2") may_put_2 }; is = refl },
+          record { channel = _; link_is = refl; may = (refl, ((λ e. cc), omega arith)); may_put = part_alone asked_1 0 1 0 (codes "SET a 2") may_put_2 },
           (
-            finished_1,
-            record { may = record { call_is = refl; wanted = refl; none_waits = refl; turn = λ n c lt is own. absurd (omega arith) }; is = refl },
+            record { call_is = refl; wanted = refl; none_waits = refl; turn = λ n c lt is own. absurd (omega arith) },
             (
-              finished_2,
-              record { may = record { call_is = refl; wanted = refl; none_waits = refl; turn = λ n c lt is own. first_over n c lt is }; is = refl },
+              record { call_is = refl; wanted = refl; none_waits = refl; turn = λ n c lt is own. first_over n c lt is },
               refl,
             ),
           ),
@@ -277,38 +270,29 @@ alone = record {
 
 a_reply_comes : Run start (Open 0 100 ∷ Begin 0 7 (set_1 ∷ []) ∷ put_1 ∷ On 0 (link.Write 7) ∷ On 0 (link.Hear okay) ∷ On 0 (link.Take (Part 0 0) okay) ∷ []) taken_1
 a_reply_comes = (
-  opened,
-  record { may = (omega arith, λ c is. cc); is = refl },
+  (omega arith, λ c is. cc),
   (
-    begun_1,
-    record { may = (refl, refl, one_apart set_1); is = refl },
+    (refl, refl, one_apart set_1),
     (
-      asked_alone,
-      record { may = record { channel = _; link_is = refl; may = (refl, ((λ e. cc), omega arith)); may_put = part_alone begun_1 0 0 0 (codes "SET a 1") alone }; is = refl },
+      record { channel = _; link_is = refl; may = (refl, ((λ e. cc), omega arith)); may_put = part_alone begun_1 0 0 0 (codes "SET a 1") alone },
       (
-        written_1,
-        record { may = record { channel = _; link_is = refl; may = ((λ e. cc), omega arith); may_put = tt }; is = refl },
+        record { channel = _; link_is = refl; may = ((λ e. cc), omega arith); may_put = tt },
         (
-          heard_1,
-          record { may = record { channel = _; link_is = refl; may = refl; may_put = tt }; is = refl },
+          record { channel = _; link_is = refl; may = refl; may_put = tt },
           (
-            taken_1,
             record {
+              channel = _;
+              link_is = refl;
               may = record {
-                channel = _;
-                link_is = refl;
-                may = record {
-                  wait = record { ticket = Part 0 0; start = 0; end = 7 };
-                  is_for = record { first = refl; count = 7; before = refl; is = omega arith };
-                  ticket_is = refl;
-                  is_open = refl;
-                  came = record { rest = []; is = refl };
-                  is = (is_message, (okay ∷ [], refl, ((refl, 0, is_head), tt)));
-                  short = omega arith;
-                };
-                may_put = tt;
+                wait = record { ticket = Part 0 0; start = 0; end = 7 };
+                is_for = record { first = refl; count = 7; before = refl; is = omega arith };
+                ticket_is = refl;
+                is_open = refl;
+                came = record { rest = []; is = refl };
+                is = (is_message, (okay ∷ [], refl, ((refl, 0, is_head), tt)));
+                short = omega arith;
               };
-              is = refl;
+              may_put = tt;
             },
             refl,
           ),

@@ -4,6 +4,7 @@ pub mod LoneParts
 pub mod Arrivals
 pub mod LinkRuns
 pub mod Runs
+pub mod Queues
 pub mod AfterEvents
 pub mod Waiting
 pub mod Moves

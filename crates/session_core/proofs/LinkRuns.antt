@@ -23,13 +23,9 @@ use Rattle.session_core.proofs.PlaceLists.{get_before, get_dropped}
 
 -- ---- one step
 
--- the run after its first step
-next : (event : Event) (events : List Event) (c d : Channel) → Run c (event ∷ events) d → Run (after event c) events d
-next event events c d run = subst (λ (m : Channel). Run m events d) run.1.is run.2
-
 split : (before more : List Event) (c d : Channel) → Run c (before ++ more) d → (mid : Channel) × Run mid more d
 split [] more c d run = (c, run)
-split (event ∷ before) more c d run = split before more run.0 d run.2
+split (event ∷ before) more c d run = split before more (after event c) d run.1
 
 open_or_ended : {s : Standing} → s ≡ Open → s ≡ Ended → ⊥
 open_or_ended e f = absurd (cc)
@@ -38,13 +34,13 @@ open_or_ended e f = absurd (cc)
 
 silent : (events : List Event) (c d : Channel) → Run c events d → (c.standing ≡ Open → ⊥) → IsSilent events
 silent [] c d run shut = (refl, refl, refl)
-silent (Put asks ∷ es) c d run shut = absurd (shut run.1.may.0)
-silent (Hear b ∷ es) c d run shut = absurd (shut run.1.may)
-silent (Take t r ∷ es) c d run shut = absurd (shut run.1.may.is_open)
-silent (Break w ∷ es) c d run shut = absurd (shut run.1.may.0)
-silent (Miss ∷ es) c d run shut = absurd (shut run.1.may)
-silent (End ∷ es) c d run shut = silent es (after End c) d (next End es c d run) (λ e. absurd (cc))
-silent (event ∷ es) c d run shut = silent es (after event c) d (next event es c d run) shut
+silent (Put asks ∷ es) c d run shut = absurd (shut run.0.0)
+silent (Hear b ∷ es) c d run shut = absurd (shut run.0)
+silent (Take t r ∷ es) c d run shut = absurd (shut run.0.is_open)
+silent (Break w ∷ es) c d run shut = absurd (shut run.0.0)
+silent (Miss ∷ es) c d run shut = absurd (shut run.0)
+silent (End ∷ es) c d run shut = silent es (after End c) d run.1 (λ e. absurd (cc))
+silent (event ∷ es) c d run shut = silent es (after event c) d run.1 shut
 
 shut_after : (event : Event) (c : Channel) → closes event ≡ true → (after event c).standing ≡ Open → ⊥
 shut_after (Break w) c h e = absurd (cc)
@@ -53,32 +49,32 @@ shut_after event c h e = absurd (cc)
 after_event : (event : Event) (before more events : List Event) (c d : Channel) → Run c events d → events ≡ before ++ event ∷ more → closes event ≡ true → IsSilent more
 after_event event before more events c d run e h =
     let r = split before (event ∷ more) c d (subst (λ (es : List Event). Run c es d) e run) in
-    silent more (after event r.0) d (next event more r.0 d r.1) (shut_after event r.0 h)
+    silent more (after event r.0) d r.1.1 (shut_after event r.0 h)
 
 -- ---- what came
 
 incoming : (events : List Event) (c d : Channel) → Run c events d → c.heard ++ came events ≡ bytes_of (taken events) ++ d.heard
 incoming [] c d run = append-nil c.heard ∙ ap (λ (m : Channel). m.heard) (sym run)
-incoming (Hear b ∷ es) c d run = sym (append_assoc c.heard b (came es)) ∙ incoming es (after (Hear b) c) d (next (Hear b) es c d run)
+incoming (Hear b ∷ es) c d run = sym (append_assoc c.heard b (came es)) ∙ incoming es (after (Hear b) c) d run.1
 incoming (Take t r ∷ es) c d run =
-    let m = run.1.may.came in
+    let m = run.0.came in
     let left : drop (length r) c.heard ≡ m.rest = ap (drop (length r)) m.is ∙ drop-append_seam r m.rest in
     ap (λ (x : List ℕ). x ++ came es) (m.is ∙ ap (λ (x : List ℕ). r ++ x) (sym left)) ∙ append_assoc r (drop (length r) c.heard) (came es)
-    ∙ ap (λ (x : List ℕ). r ++ x) (incoming es (after (Take t r) c) d (next (Take t r) es c d run)) ∙ sym (append_assoc r (bytes_of (taken es)) d.heard)
-incoming (event ∷ es) c d run = incoming es (after event c) d (next event es c d run)
+    ∙ ap (λ (x : List ℕ). r ++ x) (incoming es (after (Take t r) c) d run.1) ∙ sym (append_assoc r (bytes_of (taken es)) d.heard)
+incoming (event ∷ es) c d run = incoming es (after event c) d run.1
 
 same_most : (events : List Event) (c d : Channel) → Run c events d → d.most ≡ c.most
 same_most [] c d run = ap (λ (m : Channel). m.most) run
-same_most (Put asks ∷ es) c d run = same_most es (after (Put asks) c) d (next (Put asks) es c d run)
-same_most (event ∷ es) c d run = same_most es (after event c) d (next event es c d run)
+same_most (Put asks ∷ es) c d run = same_most es (after (Put asks) c) d run.1
+same_most (event ∷ es) c d run = same_most es (after event c) d run.1
 
 abbrev IsShortReply : ℕ → Ask → Type 0
 IsShortReply most t = IsReply t.1 × (length t.1 ≤ most)
 
 replies : (events : List Event) (c d : Channel) → Run c events d → All (IsShortReply c.most) (taken events)
 replies [] c d run = All-nil _
-replies (Take t r ∷ es) c d run = All-cons (IsShortReply c.most) (t, r) (taken es) (run.1.may.is, run.1.may.short) (replies es (after (Take t r) c) d (next (Take t r) es c d run))
-replies (event ∷ es) c d run = replies es (after event c) d (next event es c d run)
+replies (Take t r ∷ es) c d run = All-cons (IsShortReply c.most) (t, r) (taken es) (run.0.is, run.0.short) (replies es (after (Take t r) c) d run.1)
+replies (event ∷ es) c d run = replies es (after event c) d run.1
 
 -- ---- what is written
 
@@ -106,19 +102,19 @@ adds event c may h = omega arith
 counted_is : (events : List Event) (c d : Channel) → Run c events d → IsWithin c → written d ≡ written c + count_written events
 counted_is [] c d run h = ap written run ∙ omega arith
 counted_is (event ∷ es) c d run h =
-    omega (arith, counts event es, adds event c run.1.may h, counted_is es (after event c) d (next event es c d run) (within event c run.1.may h))
+    omega (arith, counts event es, adds event c run.0 h, counted_is es (after event c) d run.1 (within event c run.0 h))
 
 -- Nothing is written once the connection ended.
 none_written : (events : List Event) (c d : Channel) → Run c events d → c.standing ≡ Ended → written d ≡ written c
 none_written [] c d run ended = ap written run
-none_written (Put asks ∷ es) c d run ended = absurd (open_or_ended run.1.may.0 ended)
-none_written (Write n ∷ es) c d run ended = absurd (run.1.may.0 ended)
-none_written (Hear b ∷ es) c d run ended = absurd (open_or_ended run.1.may ended)
-none_written (Take t r ∷ es) c d run ended = absurd (open_or_ended run.1.may.is_open ended)
-none_written (Break w ∷ es) c d run ended = absurd (open_or_ended run.1.may.0 ended)
-none_written (Miss ∷ es) c d run ended = absurd (open_or_ended run.1.may ended)
-none_written (End ∷ es) c d run ended = absurd (run.1.may ended)
-none_written (event ∷ es) c d run ended = none_written es (after event c) d (next event es c d run) ended
+none_written (Put asks ∷ es) c d run ended = absurd (open_or_ended run.0.0 ended)
+none_written (Write n ∷ es) c d run ended = absurd (run.0.0 ended)
+none_written (Hear b ∷ es) c d run ended = absurd (open_or_ended run.0 ended)
+none_written (Take t r ∷ es) c d run ended = absurd (open_or_ended run.0.is_open ended)
+none_written (Break w ∷ es) c d run ended = absurd (open_or_ended run.0.0 ended)
+none_written (Miss ∷ es) c d run ended = absurd (open_or_ended run.0 ended)
+none_written (End ∷ es) c d run ended = absurd (run.0 ended)
+none_written (event ∷ es) c d run ended = none_written es (after event c) d run.1 ended
 
 drop_both : (n k : ℕ) (u x : List ℕ) → n ≤ length u → drop k (drop n u ++ x) ≡ drop (n + k) (u ++ x)
 drop_both zero k u x h = ap (λ (m : ℕ). drop m (u ++ x)) (omega arith)
@@ -136,16 +132,16 @@ IsOutgoing count bytes d = d.unwritten ≡ drop count bytes
 outgoing : (events : List Event) (c d : Channel) → Run c events d → IsOutgoing (count_written events) (c.unwritten ++ bytes_of (asked events)) d
 outgoing [] c d run = ap (λ (m : Channel). m.unwritten) run ∙ sym (append-nil c.unwritten)
 outgoing (Put asks ∷ es) c d run =
-    outgoing es (after (Put asks) c) d (next (Put asks) es c d run)
+    outgoing es (after (Put asks) c) d run.1
     ∙ ap (drop (count_written es)) (append_assoc c.unwritten (bytes_of asks) (bytes_of (asked es)) ∙ ap (λ (b : List ℕ). c.unwritten ++ b) (sym (bytes-append asks (asked es))))
-outgoing (Write n ∷ es) c d run = outgoing es (after (Write n) c) d (next (Write n) es c d run) ∙ drop_both n (count_written es) c.unwritten (bytes_of (asked es)) run.1.may.1
-outgoing (event ∷ es) c d run = outgoing es (after event c) d (next event es c d run)
+outgoing (Write n ∷ es) c d run = outgoing es (after (Write n) c) d run.1 ∙ drop_both n (count_written es) c.unwritten (bytes_of (asked es)) run.0.1
+outgoing (event ∷ es) c d run = outgoing es (after event c) d run.1
 
 given_is : (events : List Event) (c d : Channel) → Run c events d → d.given ≡ c.given + length (bytes_of (asked events))
 given_is [] c d run = ap (λ (m : Channel). m.given) run ∙ omega arith
 given_is (Put asks ∷ es) c d run =
-    omega (arith, given_is es (after (Put asks) c) d (next (Put asks) es c d run), ap (length {A = ℕ}) (bytes-append asks (asked es)), length-append (bytes_of asks) (bytes_of (asked es)))
-given_is (event ∷ es) c d run = given_is es (after event c) d (next event es c d run)
+    omega (arith, given_is es (after (Put asks) c) d run.1, ap (length {A = ℕ}) (bytes-append asks (asked es)), length-append (bytes_of asks) (bytes_of (asked es)))
+given_is (event ∷ es) c d run = given_is es (after event c) d run.1
 
 -- ---- who waits, is answered and is lost
 
@@ -195,22 +191,22 @@ in_turn : (events : List Event) (c d : Channel) → Run c events d → IsWithin 
 in_turn [] c d run h = record { tickets = refl; losses_are = refl; others = ap (λ (m : Channel). m.waits) run ∙ sym (append-nil c.waits) }
 in_turn (Put asks ∷ es) c d run h =
     let same : all_waits es (after (Put asks) c) ≡ all_waits (Put asks ∷ es) c = append_assoc c.waits (placed c.given asks) _ ∙ ap (λ (ws : List Wait). c.waits ++ ws) (sym (placed-append c.given asks (asked es))) in
-    subst (λ (ws : List Wait). AreInTurn (taken es) (lost es) ws d) same (in_turn es (after (Put asks) c) d (next (Put asks) es c d run) (within (Put asks) c run.1.may h))
-in_turn (Write n ∷ es) c d run h = in_turn es (after (Write n) c) d (next (Write n) es c d run) (within (Write n) c run.1.may h)
+    subst (λ (ws : List Wait). AreInTurn (taken es) (lost es) ws d) same (in_turn es (after (Put asks) c) d run.1 (within (Put asks) c run.0 h))
+in_turn (Write n ∷ es) c d run h = in_turn es (after (Write n) c) d run.1 (within (Write n) c run.0 h)
 in_turn (Take t r ∷ es) c d run h =
-    let m = run.1.may in
+    let m = run.0 in
     subst (λ (ws : List Wait). AreInTurn ((t, r) ∷ taken es) (lost es) (ws ++ placed c.given (asked es)) d) (sym (first_of c.waits m.wait m.is_for.first))
-    (took m.wait t r (taken es) (lost es) _ d m.ticket_is (in_turn es (after (Take t r) c) d (next (Take t r) es c d run) h))
+    (took m.wait t r (taken es) (lost es) _ d m.ticket_is (in_turn es (after (Take t r) c) d run.1 h))
 in_turn (Lose t b ∷ es) c d run h =
-    let m = run.1.may in
-    let left = next (Lose t b) es c d run in
+    let m = run.0 in
+    let left = run.1 in
     let none : taken es ≡ [] = (silent es (after (Lose t b) c) d left (λ e. open_or_ended e m.ended)).2 in
     let same : written d ≡ written c = none_written es (after (Lose t b) c) d left m.ended in
     let begun : b ≡ nat_lt m.wait.start (written d) = m.begun_is ∙ ap (λ (n : ℕ). nat_lt m.wait.start n) (sym same) in
     let others = subst (λ (ts : List Ask). AreInTurn ts (lost es) (drop 1 c.waits ++ placed c.given (asked es)) d) none (in_turn es (after (Lose t b) c) d left h) in
     subst (λ (ts : List Ask). AreInTurn ts ((t, b) ∷ lost es) (c.waits ++ placed c.given (asked es)) d) (sym none)
     (subst (λ (ws : List Wait). AreInTurn [] ((t, b) ∷ lost es) (ws ++ placed c.given (asked es)) d) (sym (first_of c.waits m.wait m.first)) (gave_up m.wait t b (lost es) _ d m.ticket_is begun others))
-in_turn (event ∷ es) c d run h = in_turn es (after event c) d (next event es c d run) h
+in_turn (event ∷ es) c d run h = in_turn es (after event c) d run.1 h
 
 tickets_placed : (start n : ℕ) (asks : List Ask) → map (λ (w : Wait). w.ticket) (take n (placed start asks)) ≡ take n (map (λ (ask : Ask). ask.0) asks)
 tickets_placed start zero asks = refl
@@ -250,18 +246,18 @@ timely : (events : List Event) (c d : Channel) → Run c events d → IsWithin c
 timely [] c d run h k = tt
 timely (Put asks ∷ es) c d run h k =
     let same : all_waits es (after (Put asks) c) ≡ all_waits (Put asks ∷ es) c = append_assoc c.waits (placed c.given asks) _ ∙ ap (λ (ws : List Wait). c.waits ++ ws) (sym (placed-append c.given asks (asked es))) in
-    let count : written (after (Put asks) c) ≡ written c = omega (arith, adds (Put asks) c run.1.may h) in
+    let count : written (after (Put asks) c) ≡ written c = omega (arith, adds (Put asks) c run.0 h) in
     subst (λ (ws : List Wait). AreTimely (taken es) ws (c.written_before ++ counts_before (written c) es)) same
     (subst (λ (n : ℕ). AreTimely (taken es) (all_waits es (after (Put asks) c)) (c.written_before ++ counts_before n es)) count
-    (timely es (after (Put asks) c) d (next (Put asks) es c d run) (within (Put asks) c run.1.may h) k))
+    (timely es (after (Put asks) c) d run.1 (within (Put asks) c run.0 h) k))
 timely (Write n ∷ es) c d run h k =
-    subst (λ (m : ℕ). AreTimely (taken es) (all_waits es c) (c.written_before ++ counts_before m es)) (adds (Write n) c run.1.may h)
-    (timely es (after (Write n) c) d (next (Write n) es c d run) (within (Write n) c run.1.may h) k)
+    subst (λ (m : ℕ). AreTimely (taken es) (all_waits es c) (c.written_before ++ counts_before m es)) (adds (Write n) c run.0 h)
+    (timely es (after (Write n) c) d run.1 (within (Write n) c run.0 h) k)
 timely (Hear b ∷ es) c d run h k =
     subst (AreTimely (taken es) (all_waits es c)) (append_assoc c.written_before (replicate (length b) (written c)) (counts_before (written c) es))
-    (timely es (after (Hear b) c) d (next (Hear b) es c d run) h (still_counted (Hear b) c k))
+    (timely es (after (Hear b) c) d run.1 h (still_counted (Hear b) c k))
 timely (Take t r ∷ es) c d run h k =
-    let m = run.1.may in
+    let m = run.0 in
     let f = m.is_for in
     let some : 1 ≤ length c.waits = omega (arith, slice_get_within c.waits 0 m.wait f.first) in
     let long : length r ≤ length c.written_before = omega (arith, k, ap (length {A = ℕ}) m.came.is, length-append r m.came.rest) in
@@ -274,13 +270,13 @@ timely (Take t r ∷ es) c d run h k =
         before = get_before c.written_before counts 0 (slice_get_within c.written_before 0 f.count f.before) ∙ f.before;
         is = f.is;
       },
-      rw (drop-append-le 1 c.waits later some, drop-append-le (length r) c.written_before counts long) (timely es (after (Take t r) c) d (next (Take t r) es c d run) h (still_counted (Take t r) c k)),
+      rw (drop-append-le 1 c.waits later some, drop-append-le (length r) c.written_before counts long) (timely es (after (Take t r) c) d run.1 h (still_counted (Take t r) c k)),
     )
 timely (Lose t b ∷ es) c d run h k =
-    let left = next (Lose t b) es c d run in
-    let none : taken es ≡ [] = (silent es (after (Lose t b) c) d left (λ e. open_or_ended e run.1.may.ended)).2 in
+    let left = run.1 in
+    let none : taken es ≡ [] = (silent es (after (Lose t b) c) d left (λ e. open_or_ended e run.0.ended)).2 in
     subst (λ (ts : List Ask). AreTimely ts (all_waits (Lose t b ∷ es) c) (c.written_before ++ counts_before (written c) es)) (sym none) tt
-timely (event ∷ es) c d run h k = timely es (after event c) d (next event es c d run) h k
+timely (event ∷ es) c d run h k = timely es (after event c) d run.1 h k
 
 timely_at : (ts : List Ask) (waits : List Wait) (counts : List ℕ) (i : ℕ) (wait : Wait) → AreTimely ts waits counts → i < length ts → slice_get waits i ≡ Some wait
     → (count : ℕ) × (slice_get counts (length (bytes_of (take i ts))) ≡ Some count) × (wait.end ≤ count)
@@ -361,8 +357,8 @@ paired-append (x ∷ xs) ys h k = (
 
 paired : (events : List Event) (c d : Channel) → Run c events d → ArePaired (asked events)
 paired [] c d run = tt
-paired (Put asks ∷ es) c d run = paired-append asks (asked es) (step_paired asks run.1.may.1) (paired es (after (Put asks) c) d (next (Put asks) es c d run))
-paired (event ∷ es) c d run = paired es (after event c) d (next event es c d run)
+paired (Put asks ∷ es) c d run = paired-append asks (asked es) (step_paired asks run.0.1) (paired es (after (Put asks) c) d run.1)
+paired (event ∷ es) c d run = paired es (after event c) d run.1
 
 followed : (asks before more : List Ask) (request : List ℕ) → ArePaired asks → asks ≡ before ++ (Asking, request) ∷ more → (request ≡ asking) × BeginsWithPart more
 followed asks before more request h e = at before (subst ArePaired e h)

@@ -8,8 +8,8 @@ use Rattle.session_core.specs.declared.part.Cause.TheVariants.{GivenUp}
 use Rattle.session_core.specs.LinkEvents as link
 use Rattle.session_core.specs.Part.{PartState, Phase, Waits, Answered, Lost, Unsent, is_waiting, is_on, is_refusal, phase_told, phase_lost, phase_ended}
 use Rattle.session_core.specs.Part as part
-use Rattle.session_core.specs.State.{State, Event, On, GiveUp, End, part_at, is_part, asks, phase_after, May}
-use Rattle.session_core.specs.History.{CallPart, Step, Asked, Refused, Unwritten, Settled, step_of, is_ask, is_unwritten, may_follow, may_all_follow, is_there}
+use Rattle.session_core.specs.State.{State, Event, On, GiveUp, End, part_at, is_part, asks, phase_after, MayBy}
+use Rattle.session_core.specs.History.{AsQueue, CallPart, Step, Asked, Refused, Unwritten, Settled, step_of, is_ask, is_unwritten, may_follow, may_all_follow, is_there}
 use Rattle.session_core.proofs.Runs.{last_more}
 use Rattle.session_core.proofs.AfterEvents.{in_phase}
 use Rattle.session_core.proofs.Waiting.{IsSingle, may_ask, part_is, same_part, that_waits, first_there, on_its_way}
@@ -49,7 +49,7 @@ ended cause (part.Refused error) = stays (part.Refused error)
 ended cause (Unsent other) = stays (Unsent other)
 
 -- what an event does to a part that is there
-pub moves : (seat : CallPart) (e : Event) (s : State) (wanted : Bool) (f : Phase) → IsSingle s → May e s → part_at seat.call seat.part s ≡ Some (in_phase seat.began f)
+pub moves : (seat : CallPart) (e : Event) (s : State) (wanted : Bool) (f : Phase) → IsSingle s → MayBy AsQueue e s → part_at seat.call seat.part s ≡ Some (in_phase seat.began f)
     → Moves (step_of seat e) f (phase_after seat.call seat.part e wanted (in_phase seat.began f))
 moves seat (On m (link.Put requests)) s wanted f single may at =
     by_test (asks seat.call seat.part requests)
@@ -62,13 +62,13 @@ moves seat (On m (link.Put requests)) s wanted f single may at =
 moves seat (On m (link.Take ticket reply)) s wanted f single may at =
     by_test (is_part seat.call seat.part ticket)
     (λ k.
-    let w = on_its_way m f (ap (is_there m) (sym at) ∙ first_there m seat.call seat.part ticket may.channel may.may.wait s single may.link_is may.may.is_for.first may.may.ticket_is k) in
+    let w = on_its_way m f (ap (is_there m) (sym at) ∙ first_there m seat.call seat.part ticket may.channel may.may.0 s single may.link_is may.may.1 may.may.2 k) in
     rw (k, w.1) (told m w.0 wanted (is_refusal seat.began reply) reply))
     (λ k. rw k (stays f))
 moves seat (On m (link.Lose ticket begun)) s wanted f single may at =
     by_test (is_part seat.call seat.part ticket)
     (λ k.
-    let w = on_its_way m f (ap (is_there m) (sym at) ∙ first_there m seat.call seat.part ticket may.channel may.may.wait s single may.link_is may.may.first may.may.ticket_is k) in
+    let w = on_its_way m f (ap (is_there m) (sym at) ∙ first_there m seat.call seat.part ticket may.channel may.may.0 s single may.link_is may.may.1 may.may.2 k) in
     rw (k, w.1) (ended_link m w.0 wanted begun))
     (λ k. rw k (stays f))
 moves seat (GiveUp c) s wanted f single may at = by_test (eqb c seat.call) (λ k. rw k (ended GivenUp f)) (λ k. rw k (stays f))

@@ -14,13 +14,12 @@ use Rattle.session_core.proofs.Runs.{always}
 use Rattle.session_core.proofs.Waiting.{link_at, same_links, not_opened, happened_on}
 
 -- The link has done this since it was opened.
-pub record HasRun (since : List link.Event) (c : Channel) : Type 0 where
-  pub most : ℕ
-  pub run : link.Run (fresh most) since c
+abbrev pub HasRun : List link.Event → Channel → Type 0
+HasRun since c = (most : ℕ) × link.Run (fresh most) since c
 
-ran_more : (since : List link.Event) (event : link.Event) (old c d : Channel) → link.Run old since c → link.Happens c event d → link.Run old (since ++ event ∷ []) d
-ran_more [] event old c d run happens = (d, subst (λ x. link.Happens x event d) run happens, refl)
-ran_more (first ∷ since) event old c d run happens = (run.0, run.1, ran_more since event run.0 c d run.2 happens)
+ran_more : (since : List link.Event) (event : link.Event) (old c : Channel) → link.Run old since c → link.May event c → link.Run old (since ++ event ∷ []) (link.after event c)
+ran_more [] event old c run may = subst (λ x. link.Run x (event ∷ []) (link.after event c)) run (may, refl)
+ran_more (first ∷ since) event old c run may = (run.0, ran_more since event (link.after first old) c run.1 may)
 
 on_link_more : (number : ℕ) (es : List Event) (e : Event) → on_link number (es ++ e ∷ []) ≡ with_event number (on_link number es) e
 on_link_more number es e = fold-append (with_event number) [] es (e ∷ [])
@@ -54,7 +53,7 @@ ran_after n es (Open number most) s may old =
     (λ k. λ c is.
     let new : c ≡ fresh most = opened_as n number most _ c k (sym at ∙ is) in
     let none : on_link n (es ++ Open number most ∷ []) ≡ [] = on_link_more n es (Open number most) ∙ rw k refl in
-    subst (λ xs. HasRun xs c) (sym none) (record { most = most; run = new }))
+    subst (λ xs. HasRun xs c) (sym none) (most, new))
     (λ k. same_run n es (Open number most) s (rw k refl)
     (λ c is. let here = sym (not_opened n number most _ k) ∙ sym at ∙ is in
     by_test (eqb number (length s.links)) (λ q. placed_back s.links n c (rw q at here)) (λ q. rw q at here))
@@ -69,7 +68,7 @@ ran_after n es (On number event) s may old =
     let new : c ≡ link.after event may.channel = sym (same_Some _ c (same_Some _ (Some c) both)) in
     let before = old may.channel there in
     let more : on_link n (es ++ On number event ∷ []) ≡ on_link n es ++ event ∷ [] = on_link_more n es (On number event) ∙ rw k refl in
-    subst (λ xs. HasRun xs c) (sym more) (record { most = before.most; run = ran_more (on_link n es) event (fresh before.most) may.channel c before.run (record { may = may.may; is = new }) }))
+    subst (λ xs. HasRun xs c) (sym more) (before.0, subst (link.Run (fresh before.0) (on_link n es ++ event ∷ [])) (sym new) (ran_more (on_link n es) event (fresh before.0) may.channel before.1 may.may)))
     (λ k. same_run n es (On number event) s (rw k refl) (λ c is. sym (happened_on n number event _ k) ∙ sym at ∙ is) old)
 ran_after n es (Forget number) s may old = same_run n es (Forget number) s refl
     (λ c is. forgotten_as n number (slice_get s.links n) c (sym (link_at (link_after (Forget number)) s.links n) ∙ is)) old
@@ -82,4 +81,4 @@ ran_after n es Trim s may old = same_run n es Trim s refl (λ d is. is) old
 
 -- what happened on a link since it was opened is a run of the link
 pub has_run : (number : ℕ) (events : List Event) (s : State) (c : Channel) → Run start events s → IsLink s number c → HasRun (on_link number events) c
-has_run number events s c run is = always (λ es t. Ran number es t) (λ d there. absurd (cc)) (λ es e t reached may old. ran_after number es e t may old) events s run c is
+has_run number events s c run is = always link.May (λ es t. Ran number es t) (λ d there. absurd (cc)) (λ es e t reached may old. ran_after number es e t may old) events s run c is

@@ -9,8 +9,8 @@ use Rattle.session_core.specs.LinkEvents as link
 use Rattle.session_core.specs.Channel.{Ask}
 use Rattle.session_core.specs.Part.{PartState, Phase, Waits, Answered, Lost, Unsent, is_waiting, is_done, is_on, is_refusal, have_slot, have_order}
 use Rattle.session_core.specs.Part as part
-use Rattle.session_core.specs.State.{CallState, State, Event, On, Begin, start, is_part, asks, lets_by, MayAsk, Has, May, after, Run}
-use Rattle.session_core.specs.History.{CallPart, Began, Step, Asked, Refused, Unwritten, Settled, step_of, steps, is_ask, may_follow, may_all_follow, has_effect, takes_effect, times_asked, InOrder}
+use Rattle.session_core.specs.State.{CallState, State, Event, On, Begin, start, is_part, asks, lets_by, MayAsk, Has, MayBy, after, RunBy}
+use Rattle.session_core.specs.History.{AsQueue, CallPart, Began, Step, Asked, Refused, Unwritten, Settled, step_of, steps, is_ask, may_follow, may_all_follow, has_effect, takes_effect, times_asked, InOrder}
 use Rattle.session_core.proofs.Runs.{always, run_more, last_more}
 use Rattle.session_core.proofs.AfterEvents.{in_phase, same_call}
 use Rattle.session_core.proofs.Waiting.{may_ask, part_is, same_part, that_waits}
@@ -47,10 +47,10 @@ put_step : (seat : CallPart) (m : ℕ) (requests : List Ask) → (step_of seat (
 put_step seat m requests = by_test (asks seat.call seat.part requests) (λ k. inr (rw k refl)) (λ k. inl (rw k refl))
 
 -- an event that asks a part may happen
-asked_so : (seat : CallPart) (e : Event) (s : State) (number : ℕ) → May e s → step_of seat e ≡ Some (Asked number) → (request : List ℕ) × MayAsk s number seat.call seat.part request
+asked_so : (seat : CallPart) (e : Event) (s : State) (number : ℕ) → MayBy AsQueue e s → step_of seat e ≡ Some (Asked number) → (request : List ℕ) × MayAsk s number seat.call seat.part request
 asked_so seat e s number may h =
     let by = asked_by seat e number h in
-    may_ask number seat.call seat.part by.0 s (subst (λ x. May x s) by.1 may) by.2
+    may_ask number seat.call seat.part by.0 s (subst (λ x. MayBy AsQueue x s) by.1 may) by.2
 
 -- ---- the last time that a part was asked
 
@@ -143,8 +143,8 @@ asked_last_step seat es e old turn has = elim (kind_of seat es e (step_of seat e
   | inr kept ↦ asked_later seat es e (old (turn_before seat es e (step_of seat e) refl turn) kept.1) kept.0
 ]
 
-asked_last : (seat : CallPart) (events : List Event) (s : State) → Run start events s → IsInTurn seat events → takes_effect seat events ≡ true → AskedLast seat events
-asked_last seat events s run = always (λ es t. IsInTurn seat es → takes_effect seat es ≡ true → AskedLast seat es) (λ turn has. absurd (false≢true has)) (λ es e t reached may old. asked_last_step seat es e old) events s run
+asked_last : (seat : CallPart) (events : List Event) (s : State) → RunBy AsQueue start events s → IsInTurn seat events → takes_effect seat events ≡ true → AskedLast seat events
+asked_last seat events s run = always AsQueue (λ es t. IsInTurn seat es → takes_effect seat es ≡ true → AskedLast seat es) (λ turn has. absurd (false≢true has)) (λ es e t reached may old. asked_last_step seat es e old) events s run
 
 -- ---- the rule
 
@@ -278,7 +278,7 @@ in_order_later i j es e none_i none_j o =
     }
 
 -- the later part is asked
-in_order_now : (i j : CallPart) (es : List Event) (s : State) (e : Event) (number : ℕ) → ArePair i j → Stands i es s → Stands j es s → May e s → step_of j e ≡ Some (Asked number)
+in_order_now : (i j : CallPart) (es : List Event) (s : State) (e : Event) (number : ℕ) → ArePair i j → Stands i es s → Stands j es s → MayBy AsQueue e s → step_of j e ≡ Some (Asked number)
     → step_of i e ≡ None → AskedLast i es → InOrder i j (es ++ e ∷ [])
 in_order_now i j es s e number pair hi hj may asks_j none_i a =
     let by = asked_by j e number asks_j in
@@ -311,7 +311,7 @@ in_order_now i j es s e number pair hi hj may asks_j none_i a =
     }
 
 -- what an event leaves of the order of two parts
-in_order_after : (i j : CallPart) (es : List Event) (s : State) (e : Event) → ArePair i j → Stands i es s → Stands j es s → May e s → (takes_effect i es ≡ true → AskedLast i es)
+in_order_after : (i j : CallPart) (es : List Event) (s : State) (e : Event) → ArePair i j → Stands i es s → Stands j es s → MayBy AsQueue e s → (takes_effect i es ≡ true → AskedLast i es)
     → Kind i es e → Kind j es e → (takes_effect i es ≡ true → takes_effect j es ≡ true → InOrder i j es) → InOrder i j (es ++ e ∷ [])
 in_order_after i j es s e pair hi hj may first kind_i kind_j old = elim kind_j [
   | inl now_j ↦ elim kind_i [
@@ -338,20 +338,20 @@ in_order_after i j es s e pair hi hj may first kind_i kind_j old = elim kind_j [
 -- ---- whole runs
 
 -- a part with an effect began before the last event
-began_before : (seat : CallPart) (es : List Event) (e : Event) (s : State) → Run start es s → May e s → takes_effect seat (es ++ e ∷ []) ≡ true → Began (es ++ e ∷ []) seat → Began es seat
+began_before : (seat : CallPart) (es : List Event) (e : Event) (s : State) → RunBy AsQueue start es s → MayBy AsQueue e s → takes_effect seat (es ++ e ∷ []) ≡ true → Began (es ++ e ∷ []) seat → Began es seat
 began_before seat es e s reached may has b = elim (Contains-push_cases es e (Begin seat.call seat.caller b.parts) b.began) [
   | inl old ↦ record { parts = b.parts; began = old; part_is = b.part_is }
   | inr now ↦
-      let nothing : steps seat es ≡ [] = unbegun seat es s reached (let first = (subst (λ x. May x s) now may).0 in omega (arith, first)) in
+      let nothing : steps seat es ≡ [] = unbegun seat es s reached (let first = (subst (λ x. MayBy AsQueue x s) now may).0 in omega (arith, first)) in
       let same : last_or None (steps seat (es ++ e ∷ [])) ≡ None = last_same seat es e (ap (step_of seat) now) ∙ ap (last_or None) nothing in
       absurd (false≢true (ap has_effect (sym same) ∙ has))
 ]
 
-pub in_order : (i j : CallPart) (events : List Event) (s : State) → ArePair i j → Run start events s → Began events i → Began events j → takes_effect i events ≡ true → takes_effect j events ≡ true → InOrder i j events
-in_order i j events s pair run bi bj hi hj = always (λ es t. Began es i → Began es j → takes_effect i es ≡ true → takes_effect j es ≡ true → InOrder i j es)
+pub in_order : (i j : CallPart) (events : List Event) (s : State) → ArePair i j → RunBy AsQueue start events s → Began events i → Began events j → takes_effect i events ≡ true → takes_effect j events ≡ true → InOrder i j events
+in_order i j events s pair run bi bj hi hj = always AsQueue (λ es t. Began es i → Began es j → takes_effect i es ≡ true → takes_effect j es ≡ true → InOrder i j es)
     (λ b c h k. absurd (false≢true h))
     (λ es e t reached may old b c h k.
-    let more = run_more es start t (after e t) e reached (record { may = may; is = refl }) in
+    let more = run_more AsQueue es start t e reached may in
     let turn_i = (stands i (es ++ e ∷ []) (after e t) more b).knows.in_turn in
     let turn_j = (stands j (es ++ e ∷ []) (after e t) more c).knows.in_turn in
     let bi = began_before i es e t reached may h b in

@@ -11,8 +11,8 @@ use Rattle.session_core.specs.Channel.{Ask}
 use Rattle.session_core.specs.LinkEvents as link
 use Rattle.session_core.specs.Part.{PartState, Phase, Waits, Answered, Lost, Unsent, is_settled, is_effective, have_slot}
 use Rattle.session_core.specs.Part as part
-use Rattle.session_core.specs.State.{CallState, State, Event, On, Begin, End, Finish, start, begun, call_at, asks, nothing_done, phase_after, May, Has, IsPassed, Run}
-use Rattle.session_core.specs.History.{CallPart, Began, Step, Asked, Refused, Unwritten, Settled, step_of, steps, is_ask, may_follow, may_all_follow, has_effect, takes_effect, WasPassed, WasTaken}
+use Rattle.session_core.specs.State.{CallState, State, Event, On, Begin, End, Finish, start, begun, call_at, asks, nothing_done, phase_after, MayBy, Has, IsPassed, RunBy}
+use Rattle.session_core.specs.History.{AsQueue, CallPart, Began, Step, Asked, Refused, Unwritten, Settled, step_of, steps, is_ask, may_follow, may_all_follow, has_effect, takes_effect, WasPassed, WasTaken}
 use Rattle.session_core.proofs.Runs.{always, split_run}
 use Rattle.session_core.proofs.AfterEvents.{nothing_in, in_phase, all_at, seen, not_begun, same_call, call_came, call_new}
 use Rattle.session_core.proofs.Waiting.{part_is, same_part}
@@ -34,11 +34,11 @@ seat_of caller n q p = record { caller = caller; call = n; part = q; began = p }
 abbrev IsFrom : List Event → ℕ → ℕ → ℕ → PartState → Type 0
 IsFrom es caller n q p = (began : PartState) × Began es (seat_of caller n q began) × (p ≡ in_phase began p.phase)
 
-from_begin : (events : List Event) (s : State) → Run start events s → (caller n q : ℕ) (p : PartState) → Has s caller n q p → IsFrom events caller n q p
-from_begin events s run = always (λ es t. (caller n q : ℕ) (p : PartState) → Has t caller n q p → IsFrom es caller n q p)
+from_begin : (events : List Event) (s : State) → RunBy AsQueue start events s → (caller n q : ℕ) (p : PartState) → Has s caller n q p → IsFrom events caller n q p
+from_begin events s run = always AsQueue (λ es t. (caller n q : ℕ) (p : PartState) → Has t caller n q p → IsFrom es caller n q p)
     (λ caller n q p has. let two : None ≡ Some has.state = sym (not_begun n start (omega arith)) ∙ has.call_is in absurd (cc))
     (λ es e t reached may old caller n q p has. elim (cases_lt n (begun t)) [
-      | inl lt ↦ elim (call_came e n t has.state may lt has.call_is) [
+      | inl lt ↦ elim (call_came AsQueue e n t has.state may lt has.call_is) [
         | inl c ↦
             let now : option_map (λ x. in_phase x (phase_after n q e c.0.is_wanted x)) (slice_get c.0.parts q) ≡ Some p = sym (c.2.parts q) ∙ has.part_is in
             elim (seen (slice_get c.0.parts q)) [
@@ -52,7 +52,7 @@ from_begin events s run = always (λ es t. (caller n q : ℕ) (p : PartState) �
         | inr left ↦ let two : None ≡ Some p = ap (λ (y : CallState). slice_get y.parts q) (sym left) ∙ has.part_is in absurd (cc)
       ]
       | inr new ↦
-          let b = call_new e n t has.state may new has.call_is in
+          let b = call_new AsQueue e n t has.state may new has.call_is in
           let caller_is : b.0 ≡ caller = ap (λ (y : CallState). y.caller) (sym b.3) ∙ has.caller_is in
           let is : e ≡ Begin n caller b.1 = b.2 ∙ ap (λ c. Begin n c b.1) caller_is in
           (p, record { parts = b.1; began = subst (λ x. Contains (es ++ e ∷ []) x) is (Contains-push es e); part_is = ap (λ (y : CallState). slice_get y.parts q) (sym b.3) ∙ has.part_is }, refl)
@@ -82,10 +82,10 @@ caller_of seat es s caller p h has = elim h.here [
   | inr gone ↦ let two : None ≡ Some p = sym gone.away ∙ part_is caller seat.call seat.part s p has in absurd (cc)
 ]
 
-pub was_passed : (before more : List Event) (s : State) (seat : CallPart) → Run start (before ++ End seat.call seat.part Overtaken ∷ more) s → Began before seat → WasPassed seat before
+pub was_passed : (before more : List Event) (s : State) (seat : CallPart) → RunBy AsQueue start (before ++ End seat.call seat.part Overtaken ∷ more) s → Began before seat → WasPassed seat before
 was_passed before more s seat run b =
-    let r = split_run before (End seat.call seat.part Overtaken ∷ more) start s run in
-    let w : IsPassed r.0 seat.call seat.part = r.2.1.may.3 in
+    let r = split_run AsQueue before (End seat.call seat.part Overtaken ∷ more) start s run in
+    let w : IsPassed r.0 seat.call seat.part = r.2.0.3 in
     let from = from_begin before r.0 r.1 w.caller w.later w.later_part w.other w.has_later in
     let later = seat_of w.caller w.later w.later_part from.0 in
     let h = stands seat before r.0 r.1 b in
@@ -103,18 +103,18 @@ was_passed before more s seat run b =
 
 -- ---- parts of a call
 
-pub parts_apart : (events : List Event) (s : State) (first second : CallPart) → Run start events s → Began events first → Began events second → first.call ≡ second.call → first.part < second.part → have_slot first.began.order second.began.order ≡ false
-parts_apart events s first second run one two same lt = always (λ es t. Began es first → Began es second → have_slot first.began.order second.began.order ≡ false)
+pub parts_apart : (events : List Event) (s : State) (first second : CallPart) → RunBy AsQueue start events s → Began events first → Began events second → first.call ≡ second.call → first.part < second.part → have_slot first.began.order second.began.order ≡ false
+parts_apart events s first second run one two same lt = always AsQueue (λ es t. Began es first → Began es second → have_slot first.began.order second.began.order ≡ false)
     (λ a b. absurd (nothing_in _ a.began))
     (λ es e t reached may old a b. elim (Contains-push_cases es e _ a.began) [
       | inl first_old ↦
           let first_then : Began es first = record { parts = a.parts; began = first_old; part_is = a.part_is } in
           elim (Contains-push_cases es e _ b.began) [
             | inl second_old ↦ old first_then (record { parts = b.parts; began = second_old; part_is = b.part_is })
-            | inr now ↦ absurd (omega (arith, same, (stands first es t reached first_then).bound, (subst (λ x. May x t) now may).0))
+            | inr now ↦ absurd (omega (arith, same, (stands first es t reached first_then).bound, (subst (λ x. MayBy AsQueue x t) now may).0))
           ]
       | inr now ↦
-          let begins = subst (λ x. May x t) now may in
+          let begins = subst (λ x. MayBy AsQueue x t) now may in
           elim (Contains-push_cases es e _ b.began) [
             | inl second_old ↦ absurd (omega (arith, same, (stands second es t reached (record { parts = b.parts; began = second_old; part_is = b.part_is })).bound, begins.0))
             | inr also ↦
@@ -127,18 +127,18 @@ parts_apart events s first second run one two same lt = always (λ es t. Began e
 
 -- ---- what a call is told
 
-pub stands_told : (before more : List Event) (s : State) (seat : CallPart) (state : CallState) → (run : Run start (before ++ Finish seat.call state ∷ more) s) → Began before seat
-    → (t : State) × Run start before t × (call_at seat.call t ≡ Some state) × (h : Stands seat before t) × (slice_get state.parts seat.part ≡ Some (in_phase seat.began h.phase))
+pub stands_told : (before more : List Event) (s : State) (seat : CallPart) (state : CallState) → (run : RunBy AsQueue start (before ++ Finish seat.call state ∷ more) s) → Began before seat
+    → (t : State) × RunBy AsQueue start before t × (call_at seat.call t ≡ Some state) × (h : Stands seat before t) × (slice_get state.parts seat.part ≡ Some (in_phase seat.began h.phase))
 stands_told before more s seat state run b =
-    let r = split_run before (Finish seat.call state ∷ more) start s run in
-    let may = r.2.1.may in
+    let r = split_run AsQueue before (Finish seat.call state ∷ more) start s run in
+    let may = r.2.0 in
     let h = stands seat before r.0 r.1 b in
     elim h.here [
       | inl has ↦ (r.0, r.1, may.call_is, h, ap (λ (x : CallState). slice_get x.parts seat.part) (same_call state has.state (sym may.call_is ∙ has.call_is)) ∙ has.part_is)
       | inr gone ↦ absurd (false≢true (sym (gone.unwanted state may.call_is) ∙ may.wanted))
     ]
 
-pub reply_told : (before more : List Event) (s : State) (seat : CallPart) (state : CallState) (p : PartState) (reply : List ℕ) → Run start (before ++ Finish seat.call state ∷ more) s → Began before seat
+pub reply_told : (before more : List Event) (s : State) (seat : CallPart) (state : CallState) (p : PartState) (reply : List ℕ) → RunBy AsQueue start (before ++ Finish seat.call state ∷ more) s → Began before seat
     → slice_get state.parts seat.part ≡ Some p → p.phase ≡ Answered reply → WasTaken seat reply before
 reply_told before more s seat state p reply run b is answer =
     let t = stands_told before more s seat state run b in
@@ -192,7 +192,7 @@ none_more seat (e ∷ events) o none follows unasked = elim (seen (step_of seat 
       absurd (false≢true (sym (unasked [] events ask.0 by.0 (ap (λ y. y ∷ events) by.1)) ∙ by.2))
 ]
 
-pub nothing_told : (before more : List Event) (s : State) (seat : CallPart) (state : CallState) → Run start (before ++ Finish seat.call state ∷ more) s → Began before seat → nothing_done state ≡ true
+pub nothing_told : (before more : List Event) (s : State) (seat : CallPart) (state : CallState) → RunBy AsQueue start (before ++ Finish seat.call state ∷ more) s → Began before seat → nothing_done state ≡ true
     → takes_effect seat (before ++ Finish seat.call state ∷ more) ≡ false
 nothing_told before more s seat state run b nothing =
     let t = stands_told before more s seat state run b in
@@ -201,5 +201,5 @@ nothing_told before more s seat state run b nothing =
     let turn = (stands seat (before ++ Finish seat.call state ∷ more) s run (began_later seat before (Finish seat.call state ∷ more) b)).knows.in_turn in
     let rest = follow_rest None (steps seat before) (steps seat more) (ap (may_all_follow None) (sym whole) ∙ turn) in
     let ends : steps seat more ≡ [] = none_more seat more (last_or None (steps seat before)) none rest
-    (λ mid rest n requests is. asked_no_more before mid rest s seat.call seat.part n (Finish seat.call state) requests (subst (λ es. Run start (before ++ Finish seat.call state ∷ es) s) is run) (eq-eqb seat.call seat.call refl)) in
+    (λ mid rest n requests is. asked_no_more before mid rest s seat.call seat.part n (Finish seat.call state) requests (subst (λ es. RunBy AsQueue start (before ++ Finish seat.call state ∷ es) s) is run) (eq-eqb seat.call seat.call refl)) in
     ap (λ st. has_effect (last_or None st)) (whole ∙ ap (λ st. steps seat before ++ st) ends ∙ append-nil (steps seat before)) ∙ ineffective _ none

@@ -1,5 +1,5 @@
 -- A part waits where it is on its way, once, and nowhere else.
-use Rattle.std.proofs.Common.{◌≡◌, ◌<◌, ◌+◌, ◌++◌, ◌&&◌, ◌⊎◌, inl, inr, ℕ, zero, suc, Bool, true, false, cond, eqb, List, [], ◌∷◌, length, drop, Option, None, Some, refl, sym, ap, ◌∙◌, subst, arith}
+use Rattle.std.proofs.Common.{◌≡◌, ◌<◌, ◌≤◌, ◌+◌, ◌++◌, ◌&&◌, ◌||◌, ◌⊎◌, inl, inr, ℕ, zero, suc, Bool, true, false, cond, eqb, List, [], ◌∷◌, length, drop, Option, None, Some, refl, sym, ap, ◌∙◌, subst, arith}
 use Rattle.std.specs.Prelude.{Contains}
 use Rattle.std.specs.List.{slice_get, count_by}
 use Rattle.std.specs.Option.{option_map, option_and_then}
@@ -16,8 +16,8 @@ use Rattle.session_core.specs.declared.part.Cause.TheVariants.{GivenUp}
 use Rattle.session_core.specs.Channel.{Channel, Ask, placed}
 use Rattle.session_core.specs.LinkEvents as link
 use Rattle.session_core.specs.Part.{PartState, Phase, Waits, Asked, Answered, Lost, Refused, Unsent, is_waiting, is_on, is_done, is_refusal, phase_told, phase_lost, phase_ended}
-use Rattle.session_core.specs.State.{State, Event, Open, On, Forget, Begin, GiveUp, End, Finish, Leave, Trim, start, begun, call_at, part_at, waits_on, waits_at, numbered, links_for, is_part, asks, left_call, link_after, phase_after, May, MayAsk, Has, after, Run}
-use Rattle.session_core.specs.History.{is_there}
+use Rattle.session_core.specs.State.{State, Event, Open, On, Forget, Begin, GiveUp, End, Finish, Leave, Trim, start, begun, call_at, part_at, waits_on, waits_at, numbered, links_for, is_part, asks, left_call, link_after, phase_after, MayBy, MayAsk, Has, after, RunBy}
+use Rattle.session_core.specs.History.{AsQueue, is_there}
 use Rattle.session_core.proofs.AfterEvents.{in_phase, slice_get-numbered, all_at, seen, not_begun, call_goes, call_came, call_new}
 use Rattle.session_core.proofs.Runs.{always}
 
@@ -35,13 +35,27 @@ took_from n call part (On m (link.Take ticket reply)) = cond (eqb m n) (cond (is
 took_from n call part (On m (link.Lose ticket begun)) = cond (eqb m n) (cond (is_part call part ticket) 1 0) 0
 took_from n call part other = 0
 
-placed_count : (call part start : ℕ) (requests : List Ask) → link.IsStep requests → waiting call part (placed start requests) ≡ cond (asks call part requests) 1 0
-placed_count call part start [] step = absurd step
-placed_count call part start (ask ∷ []) step = by_test (is_part call part ask.0) (λ k. rw k refl) (λ k. rw k refl)
-placed_count call part start (ask ∷ next ∷ []) step =
-    let first : is_part call part ask.0 ≡ false = ap (λ (a : Ask). is_part call part a.0) step.0 in
-    by_test (is_part call part next.0) (λ k. rw (first, k) refl) (λ k. rw (first, k) refl)
-placed_count call part start (ask ∷ next ∷ third ∷ more) step = absurd step
+abbrev count_asks : ℕ → ℕ → List Ask → ℕ
+count_asks call part requests = count_by (λ ask. is_part call part ask.0) requests
+
+placed_count : (call part start : ℕ) (requests : List Ask) → waiting call part (placed start requests) ≡ count_asks call part requests
+placed_count call part start [] = refl
+placed_count call part start (ask ∷ more) =
+    let first : Wait = record { ticket = ask.0; start = start; end = start + length ask.1 } in
+    sum_by-cons (λ (w : Wait). cond (is_part call part w.ticket) 1 0) first (placed (start + length ask.1) more)
+    ∙ ap (λ n. cond (is_part call part ask.0) 1 0 + n) (placed_count call part (start + length ask.1) more)
+    ∙ sym (sum_by-cons (λ (a : Ask). cond (is_part call part a.0) 1 0) ask more)
+
+one_of : (b rest : Bool) (n : ℕ) → cond b 1 0 + n ≤ 1 → (n ≤ 1 → n ≡ cond rest 1 0) → cond b 1 0 + n ≡ cond (b || rest) 1 0
+one_of true rest n once more = omega (arith, once)
+one_of false rest n once more = let same = more (omega (arith, once)) in omega (arith, same)
+
+-- what is asked at most once is asked once or not
+asked_once : (call part : ℕ) (requests : List Ask) → count_asks call part requests ≤ 1 → count_asks call part requests ≡ cond (asks call part requests) 1 0
+asked_once call part [] once = refl
+asked_once call part (ask ∷ more) once =
+    let all = sum_by-cons (λ (a : Ask). cond (is_part call part a.0) 1 0) ask more in
+    all ∙ one_of (is_part call part ask.0) (asks call part more) (count_asks call part more) (subst (λ n. n ≤ 1) all once) (asked_once call part more)
 
 first_count : (call part : ℕ) (ticket : Ticket) (waits : List Wait) (w : Wait) → slice_get waits 0 ≡ Some w → w.ticket ≡ ticket → waiting call part waits ≡ cond (is_part call part ticket) 1 0 + waiting call part (drop 1 waits)
 first_count call part ticket [] w first is = absurd (cc)
@@ -50,13 +64,14 @@ first_count call part ticket (x ∷ waits) w first is =
     sum_by-cons (λ y. cond (is_part call part y.ticket) 1 0) x waits ∙ ap (λ t. cond (is_part call part t) 1 0 + waiting call part waits) same
 
 -- on one link
-on_channel : (m call part : ℕ) (event : link.Event) (c : Channel) → link.May event c
+on_channel : (m call part : ℕ) (event : link.Event) (c : Channel) → AsQueue event c
     → waiting call part (link.after event c).waits + took_from m call part (On m event) ≡ waiting call part c.waits + put_on m call part (On m event)
 on_channel m call part (link.Put requests) c may =
+    let once = asked_once call part requests (may call part) in
     rw (eq-eqb m m refl)
-    (omega (arith, sum_by-append (λ (x : Wait). cond (is_part call part x.ticket) 1 0) c.waits (placed c.given requests), placed_count call part c.given requests may.1))
-on_channel m call part (link.Take ticket reply) c may = rw (eq-eqb m m refl) (omega (arith, first_count call part ticket c.waits may.wait may.is_for.first may.ticket_is))
-on_channel m call part (link.Lose ticket begun) c may = rw (eq-eqb m m refl) (omega (arith, first_count call part ticket c.waits may.wait may.first may.ticket_is))
+    (omega (arith, sum_by-append (λ (x : Wait). cond (is_part call part x.ticket) 1 0) c.waits (placed c.given requests), placed_count call part c.given requests, once))
+on_channel m call part (link.Take ticket reply) c may = rw (eq-eqb m m refl) (omega (arith, first_count call part ticket c.waits may.0 may.1 may.2))
+on_channel m call part (link.Lose ticket begun) c may = rw (eq-eqb m m refl) (omega (arith, first_count call part ticket c.waits may.0 may.1 may.2))
 on_channel m call part event c may = refl
 
 other_link : (m n call part : ℕ) (event : link.Event) → eqb m n ≡ false → (put_on n call part (On m event) ≡ 0) × (took_from n call part (On m event) ≡ 0)
@@ -112,7 +127,7 @@ happened_on n number event (Some x) k = rw k refl
 place_for : (n number most : ℕ) (s : State) → waits_on (slice_get (links_for (Open number most) s.links) n) ≡ waits_on (slice_get s.links n)
 place_for n number most s = by_test (eqb number (length s.links)) (λ k. rw k (one_place s.links n)) (λ k. rw k refl)
 
-counted : (n call part : ℕ) (e : Event) (s : State) → May e s → IsCounted n call part e s
+counted : (n call part : ℕ) (e : Event) (s : State) → MayBy AsQueue e s → IsCounted n call part e s
 counted n call part (Open number most) s may =
     let at = link_at (link_after (Open number most)) (links_for (Open number most) s.links) n in
     by_test (eqb number n)
@@ -173,7 +188,7 @@ asked_one call part (ask ∷ more) h = elim (or_cases (is_part call part ask.0) 
 ]
 
 -- what is asked may be asked
-pub may_ask : (number call part : ℕ) (requests : List Ask) (s : State) → May (On number (link.Put requests)) s → asks call part requests ≡ true → (request : List ℕ) × MayAsk s number call part request
+pub may_ask : (number call part : ℕ) (requests : List Ask) (s : State) → MayBy AsQueue (On number (link.Put requests)) s → asks call part requests ≡ true → (request : List ℕ) × MayAsk s number call part request
 may_ask number call part requests s may h =
     let found = asked_one call part requests h in
     (found.0, may.may_put call part found.0 found.1)
@@ -234,7 +249,7 @@ ended_away n cause (Refused error) = refl
 ended_away n cause (Unsent cause2) = refl
 
 -- how often a part is on its way, before an event and after it
-phase_count : (n call part : ℕ) (e : Event) (s : State) (wanted : Bool) (p : PartState) → IsSingle s → May e s → part_at call part s ≡ Some p
+phase_count : (n call part : ℕ) (e : Event) (s : State) (wanted : Bool) (p : PartState) → IsSingle s → MayBy AsQueue e s → part_at call part s ≡ Some p
     → cond (is_on n (phase_after call part e wanted p)) 1 0 + took_from n call part e ≡ cond (is_on n p.phase) 1 0 + put_on n call part e
 phase_count n call part (On m (link.Put requests)) s wanted p single may at =
     by_test (asks call part requests)
@@ -247,14 +262,14 @@ phase_count n call part (On m (link.Put requests)) s wanted p single may at =
 phase_count n call part (On m (link.Take ticket reply)) s wanted p single may at =
     by_test (is_part call part ticket)
     (λ k.
-    let there : is_on m p.phase ≡ true = ap (is_there m) (sym at) ∙ first_there m call part ticket may.channel may.may.wait s single may.link_is may.may.is_for.first may.may.ticket_is k in
+    let there : is_on m p.phase ≡ true = ap (is_there m) (sym at) ∙ first_there m call part ticket may.channel may.may.0 s single may.link_is may.may.1 may.may.2 k in
     let w = on_its_way m p.phase there in
     rw (k, w.1, told_away n m w.0 wanted (is_refusal p reply) reply) (omega arith))
     (λ k. rw k (by_test (eqb m n) (λ q. rw q refl) (λ q. rw q refl)))
 phase_count n call part (On m (link.Lose ticket begun)) s wanted p single may at =
     by_test (is_part call part ticket)
     (λ k.
-    let there : is_on m p.phase ≡ true = ap (is_there m) (sym at) ∙ first_there m call part ticket may.channel may.may.wait s single may.link_is may.may.first may.may.ticket_is k in
+    let there : is_on m p.phase ≡ true = ap (is_there m) (sym at) ∙ first_there m call part ticket may.channel may.may.0 s single may.link_is may.may.1 may.may.2 k in
     let w = on_its_way m p.phase there in
     rw (k, w.1, lost_away n m w.0 wanted begun) (omega arith))
     (λ k. rw k (by_test (eqb m n) (λ q. rw q refl) (λ q. rw q refl)))
@@ -295,7 +310,7 @@ idle_first number call part ticket c w s single is first own idle =
     (λ k. absurd (false≢true (sym (idle_there call part number s idle) ∙ first_there number call part ticket c w s single is first own k)))
     (λ k. k)
 
-pub untouched : (call part : ℕ) (e : Event) (s : State) → IsSingle s → May e s → IsIdle call part s → touches call part e ≡ false
+pub untouched : (call part : ℕ) (e : Event) (s : State) → IsSingle s → MayBy AsQueue e s → IsIdle call part s → touches call part e ≡ false
 untouched call part (On m (link.Put requests)) s single may idle =
     by_test (asks call part requests)
     (λ k.
@@ -304,8 +319,8 @@ untouched call part (On m (link.Put requests)) s single may idle =
     let done = idle ask.it (part_is ask.caller call part s ask.it ask.has) in
     absurd (false≢true (ap is_done (sym w.1) ∙ done)))
     (λ k. k)
-untouched call part (On m (link.Take ticket reply)) s single may idle = idle_first m call part ticket may.channel may.may.wait s single may.link_is may.may.is_for.first may.may.ticket_is idle
-untouched call part (On m (link.Lose ticket begun)) s single may idle = idle_first m call part ticket may.channel may.may.wait s single may.link_is may.may.first may.may.ticket_is idle
+untouched call part (On m (link.Take ticket reply)) s single may idle = idle_first m call part ticket may.channel may.may.0 s single may.link_is may.may.1 may.may.2 idle
+untouched call part (On m (link.Lose ticket begun)) s single may idle = idle_first m call part ticket may.channel may.may.0 s single may.link_is may.may.1 may.may.2 idle
 untouched call part e s single may idle = refl
 
 untouched_count : (n call part : ℕ) (e : Event) → touches call part e ≡ false → (put_on n call part e ≡ 0) × (took_from n call part e ≡ 0)
@@ -317,14 +332,14 @@ untouched_count n call part e h = (refl, refl)
 -- ---- each event keeps it
 
 -- the part is not on its way after an event: it was not touched
-single_idle : (n call part : ℕ) (e : Event) (s : State) → May e s → IsSingle s → IsIdle call part s → is_there n (part_at call part (after e s)) ≡ false
+single_idle : (n call part : ℕ) (e : Event) (s : State) → MayBy AsQueue e s → IsSingle s → IsIdle call part s → is_there n (part_at call part (after e s)) ≡ false
     → waiting call part (waits_at n (after e s)) ≡ cond (is_there n (part_at call part (after e s))) 1 0
 single_idle n call part e s may single idle gone =
     let none = untouched_count n call part e (untouched call part e s single may idle) in
     let old = single n call part ∙ ap (λ b. cond b 1 0) (idle_there call part n s idle) in
     rw gone (omega (arith, counted n call part e s may, none.0, none.1, old))
 
-single_at : (n call part : ℕ) (e : Event) (s : State) (p : PartState) (wanted : Bool) → May e s → IsSingle s → part_at call part s ≡ Some p
+single_at : (n call part : ℕ) (e : Event) (s : State) (p : PartState) (wanted : Bool) → MayBy AsQueue e s → IsSingle s → part_at call part s ≡ Some p
     → part_at call part (after e s) ≡ Some (in_phase p (phase_after call part e wanted p))
     → waiting call part (waits_at n (after e s)) ≡ cond (is_there n (part_at call part (after e s))) 1 0
 single_at n call part e s p wanted may single at now =
@@ -338,17 +353,17 @@ none_there q call s o = elim o [
 ]
 
 -- a part that is there after an event, and was not before, waits
-new_part : (n call part : ℕ) (e : Event) (s : State) → May e s → call_at call s ≡ None → is_there n (part_at call part (after e s)) ≡ false
+new_part : (n call part : ℕ) (e : Event) (s : State) → MayBy AsQueue e s → call_at call s ≡ None → is_there n (part_at call part (after e s)) ≡ false
 new_part n call part e s may none = elim (seen (call_at call (after e s))) [
   | inl gone ↦ ap (is_there n) (none_there part call (after e s) (inl gone))
   | inr there ↦ elim (cases_lt call (begun s)) [
-    | inl old ↦ elim (call_came e call s there.0 may old there.1) [
+    | inl old ↦ elim (call_came AsQueue e call s there.0 may old there.1) [
       | inl came ↦ let no : None ≡ Some came.0 = sym none ∙ came.1 in absurd (cc)
       | inr left ↦ ap (is_there n) (none_there part call (after e s) (inr (there.1 ∙ ap Some left)))
     ]
     | inr new ↦
-        let b = call_new e call s there.0 may new there.1 in
-        let wait = (subst (λ x. May x s) b.2 may).1 in
+        let b = call_new AsQueue e call s there.0 may new there.1 in
+        let wait = (subst (λ x. MayBy AsQueue x s) b.2 may).1 in
         elim (seen (slice_get b.1 part)) [
           | inl empty ↦ ap (λ o. is_there n (option_and_then (λ c. slice_get c.parts part) o)) (there.1 ∙ ap Some b.3) ∙ ap (is_there n) empty
           | inr p ↦
@@ -358,7 +373,7 @@ new_part n call part e s may none = elim (seen (call_at call (after e s))) [
   ]
 ]
 
-single_after : (e : Event) (s : State) → May e s → IsSingle s → IsSingle (after e s)
+single_after : (e : Event) (s : State) → MayBy AsQueue e s → IsSingle s → IsSingle (after e s)
 single_after e s may single = λ n call part. elim (seen (call_at call s)) [
   | inl none ↦ single_idle n call part e s may single
       (λ p is. let no : None ≡ Some p = sym (none_there part call s (inl none)) ∙ is in absurd (cc))
@@ -368,13 +383,13 @@ single_after e s may single = λ n call part. elim (seen (call_at call s)) [
         let old : part_at call part s ≡ None = ap (option_and_then (λ x. slice_get x.parts part)) c.1 ∙ empty in
         single_idle n call part e s may single
         (λ p is. let z : None ≡ Some p = sym old ∙ is in absurd (cc))
-        (elim (call_goes e call s c.0 may c.1) [
+        (elim (call_goes AsQueue e call s c.0 may c.1) [
           | inl d ↦ ap (λ o. is_there n (option_and_then (λ x. slice_get x.parts part) o)) d.1 ∙ ap (is_there n) (d.2.parts part ∙ ap (option_map (λ p. in_phase p (phase_after call part e c.0.is_wanted p))) empty)
           | inr v ↦ ap (is_there n) (none_there part call (after e s) v.away)
         ])
     | inr p ↦
         let old : part_at call part s ≡ Some p.0 = ap (option_and_then (λ x. slice_get x.parts part)) c.1 ∙ p.1 in
-        elim (call_goes e call s c.0 may c.1) [
+        elim (call_goes AsQueue e call s c.0 may c.1) [
           | inl d ↦ single_at n call part e s p.0 c.0.is_wanted may single old
               (ap (option_and_then (λ x. slice_get x.parts part)) d.1 ∙ d.2.parts part ∙ ap (option_map (λ x. in_phase x (phase_after call part e c.0.is_wanted x))) p.1)
           | inr v ↦ single_idle n call part e s may single
@@ -384,5 +399,5 @@ single_after e s may single = λ n call part. elim (seen (call_at call s)) [
   ]
 ]
 
-pub single : (events : List Event) (s : State) → Run start events s → IsSingle s
-single events s run = always (λ es t. IsSingle t) (λ n call part. ap (λ o. cond (is_there n o) 1 0) (sym (none_there part call start (inl (not_begun call start (omega arith)))))) (λ es e t reached may holds. single_after e t may holds) events s run
+pub single : (events : List Event) (s : State) → RunBy AsQueue start events s → IsSingle s
+single events s run = always AsQueue (λ es t. IsSingle t) (λ n call part. ap (λ o. cond (is_there n o) 1 0) (sym (none_there part call start (inl (not_begun call start (omega arith)))))) (λ es e t reached may holds. single_after e t may holds) events s run

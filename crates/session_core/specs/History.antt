@@ -2,10 +2,28 @@
 use Rattle.std.specs.Prelude.{◌≡◌, ◌+◌, ◌<◌, ◌≤◌, ◌++◌, ◌&&◌, ◌==◌, ◌⊎◌, ℕ, Bool, true, false, if◌then◌else◌, List, [], ◌∷◌, Option, None, Some, Contains, slice_get}
 use Rattle.std.specs.List.{filter_map, last_or, count_by, fold}
 use Rattle.session_core.specs.declared.link.Ticket.TheVariants.{Part}
-use Rattle.session_core.specs.Channel.{Ask}
+use Rattle.session_core.specs.declared.link.Ticket.{Ticket}
+use Rattle.session_core.specs.declared.link.Wait.{Wait}
+use Rattle.session_core.specs.Channel.{Channel, Ask}
 use Rattle.session_core.specs.LinkEvents as link
 use Rattle.session_core.specs.Part.{PartState, is_on, is_refusal, have_slot}
 use Rattle.session_core.specs.State.{Event, Open, On, Begin, is_part, asks, unwants}
+
+-- ---- links as queues
+
+-- Of those who wait, the first has this ticket.
+abbrev pub IsFirst : Ticket → List Wait → Type 0
+IsFirst ticket waits = (wait : Wait) × (slice_get waits 0 ≡ Some wait) × (wait.ticket ≡ ticket)
+
+-- The rules of a link as a queue, whatever its bytes are. The first that waits is answered or lost. One
+-- step puts no part twice.
+abbrev pub AsQueue : link.Event → Channel → Type 0
+AsQueue (link.Put asks) c = (call part : ℕ) → count_by (λ ask. is_part call part ask.0) asks ≤ 1
+AsQueue (link.Take ticket reply) c = IsFirst ticket c.waits
+AsQueue (link.Lose ticket begun) c = IsFirst ticket c.waits
+AsQueue other c = Unit {0}
+
+-- ---- parts
 
 -- A part of a call: its caller, the numbers of call and part, and what it is when its call begins.
 pub record CallPart : Type 0 where

@@ -101,4 +101,4 @@ pub record Happens (old : Channel) (event : Event) (new : Channel) : Type 0 wher
 -- These happen one after the other, and lead from one state to another.
 abbrev pub Run : Channel → List Event → Channel → Type 0
 Run old [] new = new ≡ old
-Run old (event ∷ events) new = (mid : Channel) × Happens old event mid × Run mid events new
+Run old (event ∷ events) new = May event old × Run (after event old) events new

@@ -185,11 +185,11 @@ MayPut s number other = Unit {0}
 abbrev pub IsLink : State → ℕ → Channel → Type 0
 IsLink s number c = slice_get s.links number ≡ Some (Some c)
 
--- The link is there, and this may happen on it.
-pub record MayOn (number : ℕ) (event : link.Event) (s : State) : Type 0 where
+-- The link is there, and this may happen on it by these rules of links.
+pub record MayOn (rules : link.Event → Channel → Type 0) (number : ℕ) (event : link.Event) (s : State) : Type 0 where
   pub channel : Channel
   pub link_is : IsLink s number channel
-  pub may : link.May event channel
+  pub may : rules event channel
   pub may_put : MayPut s number event
 
 -- A later part of its caller and slot is settled, so this part of that call is not asked any more.
@@ -238,29 +238,38 @@ pub record MayLeave (call : ℕ) (s : State) : Type 0 where
   pub done : list_all (λ p. is_done p.phase) state.parts ≡ true
   pub turn : IsTurn s state.caller call
 
-abbrev pub May : Event → State → Type 0
+-- What may happen by these rules of links.
+abbrev pub MayBy : (link.Event → Channel → Type 0) → Event → State → Type 0
 -- the number is the next one, or that of a gap
-May (Open number most) s = (number ≤ length s.links) × ((c : Channel) → IsLink s number c → ⊥)
-May (On number event) s = MayOn number event s
+MayBy rules (Open number most) s = (number ≤ length s.links) × ((c : Channel) → IsLink s number c → ⊥)
+MayBy rules (On number event) s = MayOn rules number event s
 -- the link ended, and nobody waits on it
-May (Forget number) s = (c : Channel) × IsLink s number c × (c.standing ≡ Ended) × (c.waits ≡ [])
+MayBy rules (Forget number) s = (c : Channel) × IsLink s number c × (c.standing ≡ Ended) × (c.waits ≡ [])
 -- the number is the next one, and each part waits, one for each slot
-May (Begin call caller parts) s = (call ≡ begun s) × (list_all (λ p. is_waiting p.phase) parts ≡ true) × AreApart parts
+MayBy rules (Begin call caller parts) s = (call ≡ begun s) × (list_all (λ p. is_waiting p.phase) parts ≡ true) × AreApart parts
 -- the call has begun
-May (GiveUp call) s = call < begun s
+MayBy rules (GiveUp call) s = call < begun s
 -- the part waits, and has this cause
-May (End call part cause) s = (p : PartState) × (part_at call part s ≡ Some p)
+MayBy rules (End call part cause) s = (p : PartState) × (part_at call part s ≡ Some p)
     × (is_waiting p.phase ≡ true) × MayEnd s call part cause
-May (Finish call state) s = MayFinish call state s
-May (Leave call) s = MayLeave call s
+MayBy rules (Finish call state) s = MayFinish call state s
+MayBy rules (Leave call) s = MayLeave call s
 -- the first call left
-May Trim s = (more : List CallState) × (s.calls ≡ left_call ∷ more)
+MayBy rules Trim s = (more : List CallState) × (s.calls ≡ left_call ∷ more)
+
+-- What may happen, by all rules of links.
+abbrev pub May : Event → State → Type 0
+May = MayBy link.May
 
 pub record Happens (old : State) (event : Event) (new : State) : Type 0 where
   pub may : May event old
   pub is : new ≡ after event old
 
--- These happen one after the other, and lead from one state to another.
+-- These happen one after the other by these rules of links, and lead from one state to another.
+abbrev pub RunBy : (link.Event → Channel → Type 0) → State → List Event → State → Type 0
+RunBy rules old [] new = new ≡ old
+RunBy rules old (event ∷ events) new = MayBy rules event old × RunBy rules (after event old) events new
+
+-- a run of the machine
 abbrev pub Run : State → List Event → State → Type 0
-Run old [] new = new ≡ old
-Run old (event ∷ events) new = (mid : State) × Happens old event mid × Run mid events new
+Run = RunBy link.May

@@ -23,10 +23,12 @@ mod part;
 mod promises;
 mod sorted_places;
 
-pub use laws::{each_link, take_or_break};
+pub use laws::take_or_break;
 pub use link::{BreakCause, Link, Standing, Taken, Ticket, Wait};
 pub use order::CallerOrder;
 pub use ordered_part::{Askable, OrderedPart, Overtaken, Seat, Status};
 pub use part::{Cause, PartOrder};
-pub use promises::{answered, ended, given_up, in_order, in_turn, mine, once, single, told};
+pub use promises::{
+    answered, each_run, ended, given_up, in_order, in_turn, mine, once, single, told,
+};
 pub use sorted_places::take_place;

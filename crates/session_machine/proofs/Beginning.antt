@@ -6,6 +6,7 @@ use Rattle.std.proofs.lemmas.Option.{same_Some, slice_get_within}
 use Rattle.session_core.specs.declared.ordered_part.OrderedPart.{OrderedPart}
 use Rattle.session_core.specs.declared.part.PartOrder.{PartOrder}
 use Rattle.session_core.specs.Order.{Order, MayJoin, joined, waiting_parts}
+use Rattle.session_core.specs.LinkEvents as link
 use Rattle.session_core.specs.Part.{PartState, is_waiting}
 use Rattle.session_core.specs.State.{State, CallState, Begin, begun, AreApart, Has, May, Happens, after}
 use Rattle.session_core.proofs.AfterEvents.{has_begun, call_new}
@@ -168,7 +169,7 @@ module _ {places : List CallPlaces} {callers : Callers} {began : ℕ} (s : State
           let r = k.last.wanted n was.state was.call_is was.wanted in
           up state.caller n (omega (arith, old, is)) (r.0, ap (λ m. last_of m callers) (sym was.caller_is) ∙ r.1, r.2)
       | inr fresh ↦
-          let b : (c : ℕ) × (ps : List PartState) × (Begin call caller parts ≡ Begin n c ps) × (state ≡ begun_call c ps) = call_new (Begin call caller parts) n s state may fresh there in
+          let b : (c : ℕ) × (ps : List PartState) × (Begin call caller parts ≡ Begin n c ps) × (state ≡ begun_call c ps) = call_new link.May (Begin call caller parts) n s state may fresh there in
           let number : call ≡ n = cc (b.2) in
           let own : caller ≡ state.caller = cc (b.2, b.3) in
           (call, ap (λ m. last_of m new) (sym own) ∙ last_is, omega (arith, number))

@@ -77,7 +77,7 @@ pub kept_by : {s : State} {places : List CallPlaces} {callers : Callers} {began 
     → AreTied (after e s) k.order_places (λ caller. order_of caller new) → AreOwed (after e s) (λ caller. owed_of caller new)
     → ((caller : ℕ) → last_of caller new ≡ last_of caller callers) → ((caller : ℕ) → end_of (order_of caller new) ≤ began) → IsKept next places new began
 kept_by {s = s} {places = places} {began = began} e next new k h first count tied owed lasts short =
-    let none : new_calls e ≡ 0 = omega (arith, begun_after e s h.may, first, count) in
+    let none : new_calls e ≡ 0 = omega (arith, begun_after link.May e s h.may, first, count) in
     subst (λ t. IsKept t places new began) (sym h.is) (record {
       order_places = k.order_places;
       count = k.count ∙ sym count;

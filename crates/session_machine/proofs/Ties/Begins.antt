@@ -10,6 +10,7 @@ use Rattle.session_core.specs.declared.ordered_part.Status.{Status}
 use Rattle.session_core.specs.declared.ordered_part.Status.TheVariants as status
 use Rattle.session_core.specs.declared.part.PartOrder.{PartOrder}
 use Rattle.session_core.specs.Order.{Order, ordered_at, MayJoin, joined, waiting_parts}
+use Rattle.session_core.specs.LinkEvents as link
 use Rattle.session_core.specs.Part.{PartState, is_waiting, have_slot}
 use Rattle.session_core.specs.State.{CallState, State, Begin, begun, Has, May, after}
 use Rattle.session_core.proofs.AfterEvents.{seen, all_at, call_is, not_forgotten, has_begun, call_came, call_new, begins}
@@ -75,7 +76,7 @@ joined_at call orders order i o e =
 pub began_cases : {s : State} {other n q : ℕ} {p : PartState} (call caller : ℕ) (parts : List PartState) → May (Begin call caller parts) s → Has (after (Begin call caller parts) s) other n q p
     → (Has s other n q p × (n < call)) ⊎ ((other ≡ caller) × (n ≡ call) × (slice_get parts q ≡ Some p))
 began_cases {s = s} {other = other} {n = n} {q = q} {p = p} call caller parts may has = elim (cases_lt n (begun s)) [
-  | inl old ↦ elim (call_came (Begin call caller parts) n s has.state may old has.call_is) [
+  | inl old ↦ elim (call_came link.May (Begin call caller parts) n s has.state may old has.call_is) [
     | inl c ↦
         let there = sym (c.2.parts q) ∙ has.part_is in
         elim (seen (slice_get c.0.parts q)) [
@@ -90,7 +91,7 @@ began_cases {s = s} {other = other} {n = n} {q = q} {p = p} call caller parts ma
     | inr left ↦ let no : None ≡ Some p = ap (λ (x : CallState). slice_get x.parts q) (sym left) ∙ has.part_is in absurd (cc)
   ]
   | inr new ↦
-      let b : (c : ℕ) × (ps : List PartState) × (Begin call caller parts ≡ Begin n c ps) × (has.state ≡ record { caller = c; parts = ps; is_wanted = true }) = call_new (Begin call caller parts) n s has.state may new has.call_is in
+      let b : (c : ℕ) × (ps : List PartState) × (Begin call caller parts ≡ Begin n c ps) × (has.state ≡ record { caller = c; parts = ps; is_wanted = true }) = call_new link.May (Begin call caller parts) n s has.state may new has.call_is in
       let same_call_number : call ≡ n = cc (b.2) in
       let same_caller : caller ≡ b.0 = cc (b.2) in
       let same_parts : parts ≡ b.1 = cc (b.2) in

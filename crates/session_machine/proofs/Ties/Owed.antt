@@ -2,6 +2,7 @@
 use Rattle.std.proofs.Common.{◌≡◌, ◌≢◌, ◌<◌, ◌≤◌, ◌&&◌, ◌⊎◌, inl, inr, ℕ, Bool, true, false, not, List, None, Some, refl, sym, ap, ◌∙◌, subst, arith}
 use Rattle.std.proofs.lemmas.Bool.{false≢true, eq-eqb, cases_lt, cases_eq}
 use Rattle.resp_core.proofs.Cases.{and_first, and_second}
+use Rattle.session_core.specs.LinkEvents as link
 use Rattle.session_core.specs.Part.{PartState}
 use Rattle.session_core.specs.State.{CallState, State, Event, Begin, GiveUp, Finish, IsTurn, start, begun, call_at, unwants, May, after}
 use Rattle.session_core.proofs.AfterEvents.{has_begun, not_begun, new_calls, begun_after, call_goes, call_came, call_new, begins, same_call}
@@ -20,7 +21,7 @@ pub record IsHeld (s : State) (caller call : ℕ) : Type 0 where
 
 -- a call that is wanted after an event which begins none was wanted before
 pub held_before : {s : State} {caller call : ℕ} (e : Event) → May e s → call < begun s → IsHeld (after e s) caller call → IsHeld s caller call × (unwants call e ≡ false)
-held_before {s = s} {call = call} e may bound w = elim (call_came e call s w.state may bound w.call_is) [
+held_before {s = s} {call = call} e may bound w = elim (call_came link.May e call s w.state may bound w.call_is) [
   | inl c ↦
       let both : (c.0.is_wanted && not (unwants call e)) ≡ true = sym c.2.wanted ∙ w.wanted in (
         record { state = c.0; call_is = c.1; caller_is = sym c.2.caller ∙ w.caller_is; wanted = and_first _ _ both },
@@ -30,13 +31,13 @@ held_before {s = s} {call = call} e may bound w = elim (call_came e call s w.sta
 ]
 
 held_after : {s : State} {caller call : ℕ} (e : Event) → May e s → unwants call e ≡ false → IsHeld s caller call → IsHeld (after e s) caller call
-held_after {s = s} {call = call} e may kept w = elim (call_goes e call s w.state may w.call_is) [
+held_after {s = s} {call = call} e may kept w = elim (call_goes link.May e call s w.state may w.call_is) [
   | inl d ↦ record { state = d.0; call_is = d.1; caller_is = d.2.caller ∙ w.caller_is; wanted = d.2.wanted ∙ rw (w.wanted, kept) refl }
   | inr v ↦ absurd (false≢true (sym v.unwanted ∙ w.wanted))
 ]
 
 pub held_bound : {caller call : ℕ} (s : State) (e : Event) → May e s → new_calls e ≡ 0 → IsHeld (after e s) caller call → call < begun s
-held_bound {call = call} s e may none w = omega (arith, has_begun call (after e s) w.state w.call_is, begun_after e s may, none)
+held_bound {call = call} s e may none w = omega (arith, has_begun call (after e s) w.state w.call_is, begun_after link.May e s may, none)
 
 one_held : {s : State} {caller other call : ℕ} → IsHeld s caller call → IsHeld s other call → caller ≡ other
 one_held a b = sym a.caller_is ∙ ap (λ (c : CallState). c.caller) (same_call a.state b.state (sym a.call_is ∙ b.call_is)) ∙ b.caller_is
@@ -177,7 +178,7 @@ module _ {s : State} {owed : ℕ → List ℕ} (call caller : ℕ) (parts : List
           let ne : n ≢ call = omega (arith, old, may.0) in
           kept_reply state.caller n ne (held_owed o was.0)
       | inr fresh ↦
-          let b : (c : ℕ) × (ps : List PartState) × (Begin call caller parts ≡ Begin n c ps) × (state ≡ record { caller = c; parts = ps; is_wanted = true }) = call_new (Begin call caller parts) n s state may fresh is in
+          let b : (c : ℕ) × (ps : List PartState) × (Begin call caller parts ≡ Begin n c ps) × (state ≡ record { caller = c; parts = ps; is_wanted = true }) = call_new link.May (Begin call caller parts) n s state may fresh is in
           let number : call ≡ n = cc (b.2) in
           let own : caller ≡ state.caller = cc (b.2, b.3) in
           subst (λ c. is_owed n (new c) ≡ true) own (subst (λ m. is_owed m (new caller) ≡ true) number more.owed.here)

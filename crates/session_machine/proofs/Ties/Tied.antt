@@ -8,6 +8,7 @@ use Rattle.std.proofs.lemmas.Bool.Decides.{nat_tests}
 use Rattle.session_core.specs.declared.ordered_part.OrderedPart.{OrderedPart}
 use Rattle.session_core.specs.declared.ordered_part.Status.{Status}
 use Rattle.session_core.specs.Order.{Order, no_order, ordered_at, is_done}
+use Rattle.session_core.specs.LinkEvents as link
 use Rattle.session_core.specs.Part.{PartState}
 use Rattle.session_core.specs.Part.{is_done as part_done}
 use Rattle.session_core.specs.State.{CallState, State, Event, Begin, Leave, Trim, start, begun, call_at, numbered, call_after, phase_after, Has, May, after}
@@ -28,8 +29,8 @@ pub record Came (e : Event) (s : State) (caller call part : ℕ) (now : PartStat
 
 pub part_came : {e : Event} {s : State} {caller call part : ℕ} {now : PartState} → May e s → new_calls e ≡ 0 → Has (after e s) caller call part now → Came e s caller call part now
 part_came {e = e} {s = s} {caller = caller} {call = call} {part = part} {now = now} may none has =
-    let bound : call < begun s = omega (arith, has_begun call (after e s) has.state has.call_is, begun_after e s may, none) in
-    elim (call_came e call s has.state may bound has.call_is) [
+    let bound : call < begun s = omega (arith, has_begun call (after e s) has.state has.call_is, begun_after link.May e s may, none) in
+    elim (call_came link.May e call s has.state may bound has.call_is) [
       | inl c ↦
           let there = sym (c.2.parts part) ∙ has.part_is in
           elim (seen (slice_get c.0.parts part)) [
