@@ -184,6 +184,7 @@ impl Link {
     /// # Errors
     ///
     /// If memory runs out, or 2^64 bytes were given to one link. Then nothing is asked.
+    #[inline(always)]
     pub fn ask(&mut self, ticket: Ticket, request: &[u8]) -> Result<(), AllocError>
         requires open { self.old.standing ≡ Standing.Open }
         requires own_reply { ticket ≢ Ticket.Asking }

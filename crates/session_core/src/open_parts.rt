@@ -83,6 +83,7 @@ impl OpenParts {
     }
 
     /// Gives a part of a slot this status.
+    #[inline(always)]
     pub(crate) fn change(&mut self, order: PartOrder, place: u64, status: Status)
         requires { (slot : ℕ) → order ≡ OfSlot slot → MayBecome place status (lane_of slot self.old) }
         ensures { Stepped order (with_status place status) self.old self.new }

@@ -108,6 +108,7 @@ impl CallerOrder {
     ///
     /// With `SET a 1` and `SET a 2`, the first may be asked on any link. When that is on its way on
     /// link 7, the second may be asked on link 7 only.
+    #[inline(always)]
     pub fn askable_in(&self, slot: u16) -> Option<Askable>
         ensures may { (place link : ℕ) → Offers result place link
             → MayAsk place link self.now × IsOf slot place self.now }

@@ -4,7 +4,7 @@ ghost use Rattle.session_core.specs.Order.{is_done};
 use crate::part::PartOrder;
 
 /// A list with room for more parts is not kept for reuse.
-pub(crate) const FEW: usize = 64;
+pub(crate) const FEW: usize = 16;
 
 /// Which part of which call it is.
 #[derive(Debug, Clone, Copy)]

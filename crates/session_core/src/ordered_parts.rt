@@ -141,6 +141,7 @@ impl OrderedParts {
     }
 
     /// Gives the part at a place this status.
+    #[inline(always)]
     pub(crate) fn change(&mut self, place: u64, status: Status)
         requires { MayChange place status self.old }
         ensures changed { self.new ≡ with_status place status self.old }

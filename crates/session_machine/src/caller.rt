@@ -58,6 +58,7 @@ impl Caller {
     /// # Errors
     ///
     /// If memory runs out. No part joins then, and no more replies are owed.
+    #[inline(always)]
     pub(crate) fn begin(
         &mut self,
         alloc: Global,

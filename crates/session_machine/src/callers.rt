@@ -209,6 +209,7 @@ impl Callers {
     }
 
     /// Notes that a call is owed no reply any more: its reply went out, or it was given up.
+    #[inline(always)]
     pub(crate) fn note_over(&mut self, caller: u64, call: u64)
         requires { is_owed call (owed_of caller self.old) ≡ true }
         ensures owed { Owes (owed_of caller self.old) (owed_of caller self.new) call false }

@@ -91,6 +91,7 @@ impl Links {
     /// # Errors
     ///
     /// If memory runs out, or 2^64 bytes were given to the link. Then nothing is asked.
+    #[inline(always)]
     pub(crate) fn ask(
         &mut self,
         number: usize,

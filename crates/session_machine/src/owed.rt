@@ -9,7 +9,7 @@ use std::collections::VecDeque;
 use std::marker::Model;
 
 /// A list with room for more calls is not kept for reuse.
-const FEW: usize = 64;
+const FEW: usize = 16;
 
 /// The calls of one caller that are owed a reply. They rise in the order of the calls, so that the first one gets its
 /// reply next.

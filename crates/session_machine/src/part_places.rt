@@ -117,6 +117,7 @@ pub(crate) fn note_asked(
 }
 
 /// Notes in the order of its caller what became of a part that was on its way.
+#[inline(always)]
 pub(crate) fn follow(
     first: u64,
     calls: &Calls,

@@ -6,8 +6,8 @@ ghost use Rattle.session_machine.specs.Caller.{no_calls};
 use crate::caller::Caller;
 use std::alloc::{AllocError, Global};
 
-/// The most callers that are kept. Each has some 600 bytes, and 6 kB at most.
-const MOST: usize = 1024;
+/// The most callers that are kept. Each has some 450 bytes, and 3 kB at most.
+const MOST: usize = 16384;
 
 /// Callers that were forgotten. Mostly a caller is forgotten after each call, so the next call of any
 /// caller takes no memory if one is here.
