@@ -1,5 +1,5 @@
-ghost use Rattle.std.specs.Prelude.{◌≡◌, IfOk, Some, option_and_then};
-ghost use Rattle.redis_routing.specs.Lookup.{has_name, lookup_name};
+ghost use Rattle.std.specs.Prelude.{◌≡◌, true, map, IfOk, Some, option_and_then};
+ghost use Rattle.redis_routing.specs.Lookup.{ascends, has_name, lookup_name};
 ghost use Rattle.redis_routing.specs.Upper.{upper};
 ghost use Rattle.redis_session.specs.CommandKinds.{kind_by_first_word, kind_by_shell, kind_of_command};
 ghost use Rattle.redis_session.specs.SharedNames.{kind_of_name, other_names, plain_names};
@@ -8,6 +8,7 @@ use crate::added::AddedNames;
 use crate::plain_names::{
     NAMES_A_TO_G, NAMES_H_TO_I, NAMES_J_TO_L, NAMES_M_TO_R, NAMES_S_TO_U, NAMES_X_TO_Z,
 };
+use crate::plain_places::PLAIN_PLACES;
 use redis_routing::{Registry, Routable, contains, look_up};
 use std::alloc::{AllocError, Global};
 
@@ -136,19 +137,46 @@ fn is_plain(name: &[u8]) -> bool
     }
     let first = name[0];
     if first < b'H' {
-        return contains(&NAMES_A_TO_G, name);
+        return is_in(&NAMES_A_TO_G, name);
     }
     if first < b'J' {
-        return contains(&NAMES_H_TO_I, name);
+        return is_in(&NAMES_H_TO_I, name);
     }
     if first < b'M' {
-        return contains(&NAMES_J_TO_L, name);
+        return is_in(&NAMES_J_TO_L, name);
     }
     if first < b'S' {
-        return contains(&NAMES_M_TO_R, name);
+        return is_in(&NAMES_M_TO_R, name);
     }
     if first < b'X' {
-        return contains(&NAMES_S_TO_U, name);
+        return is_in(&NAMES_S_TO_U, name);
     }
-    contains(&NAMES_X_TO_Z, name)
+    is_in(&NAMES_X_TO_Z, name)
+}
+
+/// Whether the name is one of these ascending names. Most stand at their place.
+fn is_in(names: &[&[u8]], name: &[u8]) -> bool
+    requires { ascends (map (λ n. n.now) names.now) ≡ true }
+    ensures { result ≡ has_name (map (λ n. n.now) names.now) name.now }
+{
+    is_at(names, place_of(name), name) || contains(names, name)
+}
+
+/// Whether the name is the one of this index.
+fn is_at(names: &[&[u8]], index: usize, name: &[u8]) -> bool
+    ensures { result ≡ true → has_name (map (λ n. n.now) names.now) name.now ≡ true }
+{
+    index < names.len() && names[index] == name
+}
+
+/// The index of a name in its table, if the name is in one and no shorter name has the same number.
+fn place_of(name: &[u8]) -> usize {
+    let (Some(first), Some(last)) = (name.first(), name.last()) else {
+        return 0;
+    };
+    let ends = usize::from(*first) * 13 + usize::from(*last) * 35;
+    let middle = usize::from(name[name.len() / 2]) * 60;
+    // No name has more than 20 bytes.
+    let number = name.len() % 32 * 61 + ends + middle;
+    usize::from(PLAIN_PLACES[number % PLAIN_PLACES.len()])
 }

@@ -34,6 +34,7 @@ mod nodes;
 mod number_queue;
 mod peers;
 mod plain_names;
+mod plain_places;
 mod plan;
 mod refusal;
 mod reply;
