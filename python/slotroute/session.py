@@ -208,7 +208,7 @@ class Session:
 
     def next_reply(self) -> Reply | None:
         """The next reply, or None if there is none. A caller's replies come in the order of its
-        calls. `NO_MEMORY`: the same reply comes next."""
+        calls. `NO_MEMORY`: the replies that are there come in later calls."""
         with self._lock:
             reply = self.calls.next_reply()
         return reply and Reply(*reply)

@@ -436,7 +436,7 @@ impl Session {
     }
 
     /// The next reply, or `None` if no reply is there. A caller's replies come in the order of its
-    /// calls. After `NoMemory`, the same reply comes next.
+    /// calls. After `NoMemory`, the replies that are there come in later calls.
     pub fn next_reply(&mut self) -> Result<Option<Reply<'_>>, SessionError> {
         let mut due = ffi::SessionReply::default();
         // SAFETY: as in `open`.

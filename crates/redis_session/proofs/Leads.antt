@@ -1,5 +1,5 @@
 -- Steps of a session's own, one after the other.
-use Rattle.std.proofs.Common.{◌≡◌, ◌≢◌, ◌⊎◌, inl, inr, ◌++◌, [], ◌∷◌, ◌∙◌, ℕ, zero, suc, List, Bool, true, false, Ok, Err, OnOk, OnErr, Some, Vec, Global, refl, subst, sym, ap}
+use Rattle.std.proofs.Common.{◌≡◌, ◌≢◌, ◌⊎◌, inl, inr, ◌++◌, [], ◌∷◌, ◌∙◌, ℕ, zero, suc, List, Bool, true, false, Ok, Err, OnOk, OnErr, None, Some, Vec, Global, refl, subst, sym, ap}
 use Rattle.std.specs.Prelude.{Result}
 use Rattle.std.specs.Fmt.{digits}
 use Rattle.std.proofs.lemmas.List.{append_assoc, append-nil}
@@ -12,21 +12,23 @@ use Rattle.session_core.specs.declared.link.BreakCause.{BreakCause}
 use Rattle.session_core.specs.declared.link.Ticket.{Ticket}
 use Rattle.session_core.specs.declared.link.Ticket.TheVariants as ticket
 use Rattle.session_core.specs.declared.ordered_part.Seat.{Seat}
-use Rattle.session_core.specs.Part.{Phase, PartState, Refused}
+use Rattle.session_core.specs.Part.{Phase, PartState, Refused, is_waiting}
 use Rattle.session_machine.specs.Part.{Keeps}
 use Rattle.session_machine.specs.Puts.{put_for}
 use Rattle.session_machine.specs.Took.{IsKeptIn, IsTook}
 use Rattle.session_machine.specs.declared.took.Took.{Took}
 use Rattle.session_machine.specs.declared.took.Took.TheVariants.{Nothing, Kept, Back, Login, Map, Asking, Broken}
-use Rattle.redis_session.specs.Asks.{AreFewer, Asks, asked_node}
+use Rattle.redis_session.specs.Asks.{Asks, KeepsOtherAsks, SetsAsk, asked_node}
 use Rattle.redis_session.specs.Directory.{Grows}
-use Rattle.redis_session.specs.Learned.{Learns, LearnsKept, LearnsOf, LearnsRedirect, LearnsReply, LearnsTook, NoAsks, NoPeers, Readies, ReadiesOf, SendsKept, SendsOf, SendsRedirect, Sets, host_at}
+use Rattle.redis_session.specs.Learned.{IsInMap, JoinsKept, JoinsOf, JoinsRedirect, JoinsTook, Learns, LearnsKept, LearnsOf, LearnsRedirect, LearnsReply, LearnsTook, NoAsks, NoPeers, Readies, ReadiesOf, SendsKept, SendsOf, SendsOrForgets, SendsRedirect, SendsTook, Sets, host_at}
 use Rattle.redis_session.specs.Leads.{Acts, AsksLogin, BeginsLink, ChangesPeer, Does, Ends, Finishes, Frees, GivesReply, Hails, Hears, IsConnected, IsOpened, IsOwn, Knows, Leads, LearnsThen, Notes, Opens, Serves, TakesAll, TakesReplies, TakesReply, map_request}
 use Rattle.redis_session.specs.Loads.{Lightens}
 use Rattle.redis_session.specs.Peers.{IsReadyTo, Peers, peer_at}
 use Rattle.redis_session.specs.SessionStates.{SessionState, is_reply_of, without_reply}
 use Rattle.redis_session.specs.Table.{Table}
 use Rattle.redis_session.specs.declared.load.Load.{Load}
+use Rattle.redis_session.proofs.Elements.{all_as}
+use Rattle.std.proofs.lemmas.List.Elements.{All-append, All-nil}
 
 acts_on : (events more : List Event) (old mid new : SessionState) → Acts old events mid → Acts mid more new → Acts old (events ++ more) new
 acts_on [] more old mid new acts rest = subst (λ s. Acts s more new) acts rest
@@ -66,7 +68,7 @@ leads_on old mid new first then = record { events = first.events ++ then.events;
 
 -- a call leaves, and then the session goes on
 pub leads_leave : (start before now : SessionState) (call : ℕ) (machine : State) (asks : Asks) (load : Load) (new : SessionState) → Leads start now → before ≡ now → Happens before.machine (Leave call) machine
-    → is_reply_of call before.given ≡ false → AreFewer before.asks asks → Lightens before.load load → Leads (record before { machine = machine; asks = asks; load = load }) new → Leads start new
+    → is_reply_of call before.given ≡ false → KeepsOtherAsks call before.asks asks → Lightens before.load load → Leads (record before { machine = machine; asks = asks; load = load }) new → Leads start new
 leads_leave start before now call machine asks load new first same happens own fewer lighter then =
     let mid = record before { machine = machine; asks = asks; load = load } in
     leads_on start now new first (subst (λ (s : SessionState). Leads s new) same
@@ -170,78 +172,109 @@ pub or_stays : {A B C : Type 0} → (A → B) → A ⊎ C → B ⊎ C
 or_stays f (inl a) = inl (f a)
 or_stays f (inr c) = inr c
 
-pub grows_not : (nodes : List Address) → Grows nodes nodes
-grows_not nodes = ([], sym (append-nil nodes))
+pub grows_not : (N : Address → Type 0) (nodes : List Address) → Grows N nodes nodes
+grows_not N nodes = ([], sym (append-nil nodes), All-nil N)
 
-pub grows_on : (old mid new : List Address) → Grows old mid → Grows mid new → Grows old new
-grows_on old mid new first then = (first.0 ++ then.0, then.1 ∙ ap (λ (nodes : List Address). nodes ++ then.0) first.1 ∙ append_assoc old first.0 then.0)
+pub grows_on : (N : Address → Type 0) (old mid new : List Address) → Grows N old mid → Grows N mid new → Grows N old new
+grows_on N old mid new first then = (
+  first.0 ++ then.0,
+  then.1 ∙ ap (λ (nodes : List Address). nodes ++ then.0) first.1 ∙ append_assoc old first.0 then.0,
+  All-append N first.0 then.0 first.2 then.2,
+)
 
-pub knows_nothing : (old new : SessionState) → new ≡ old → Knows old new
-knows_nothing old new same = subst (λ (s : SessionState). Knows old s) (sym same) (record { nodes = grows_not old.directory.nodes; others = refl })
+pub grows_as : (N M : Address → Type 0) (old new : List Address) → ((node : Address) → N node → M node) → Grows N old new → Grows M old new
+grows_as N M old new then grows = (grows.0, grows.1, all_as N M grows.0 then grows.2)
 
-pub knows_on : (old mid new : SessionState) → Knows old mid → Knows mid new → Knows old new
-knows_on old mid new first then = record {
-  nodes = grows_on old.directory.nodes mid.directory.nodes new.directory.nodes first.nodes then.nodes;
+pub knows_nothing : (N : Address → Type 0) (old new : SessionState) → new ≡ old → Knows N old new
+knows_nothing N old new same = subst (λ (s : SessionState). Knows N old s) (sym same) (record { nodes = grows_not N old.directory.nodes; others = refl })
+
+pub knows_on : (N : Address → Type 0) (old mid new : SessionState) → Knows N old mid → Knows N mid new → Knows N old new
+knows_on N old mid new first then = record {
+  nodes = grows_on N old.directory.nodes mid.directory.nodes new.directory.nodes first.nodes then.nodes;
   others = then.others ∙ ap (λ (s : SessionState). record s { directory = record s.directory { nodes = new.directory.nodes } }) first.others;
 }
 
-module _ (T : Table → Table → Type 0) (P : Peers → Peers → Type 0) (A : List Address → Asks → Asks → Type 0) where
-  pub learns_nothing : (old new : SessionState) → new ≡ old → Learns T P A old new
-  learns_nothing old new same = subst (λ (s : SessionState). Learns T P A old s) (sym same)
-      (record { nodes = grows_not old.directory.nodes; table = inr refl; peers = inr refl; asks = inr refl; others = refl })
+pub knows_as : (N M : Address → Type 0) (old new : SessionState) → ((node : Address) → N node → M node) → Knows N old new → Knows M old new
+knows_as N M old new then knows = record { nodes = grows_as N M old.directory.nodes new.directory.nodes then knows.nodes; others = knows.others }
 
-  pub learns_then : (old mid new : SessionState) → Learns T P A old mid → Leads mid new → LearnsThen T P A old new
+module _ (N : Table → Address → Type 0) (T : Table → Table → Type 0) (P : Peers → Peers → Type 0) (A : List Address → Asks → Asks → Type 0) where
+  pub learns_nothing : (old new : SessionState) → A old.directory.nodes old.asks old.asks → new ≡ old → Learns N T P A old new
+  learns_nothing old new asks same = subst (λ (s : SessionState). Learns N T P A old s) (sym same)
+      (record { nodes = grows_not (N old.directory.table) old.directory.nodes; table = inr refl; peers = inr refl; asks = asks; others = refl })
+
+  pub learns_then : (old mid new : SessionState) → Learns N T P A old mid → Leads mid new → LearnsThen N T P A old new
   learns_then old mid new learns leads = record { wiser = mid; learns = learns; leads = leads }
 
-  pub leads_only : (old new : SessionState) → Leads old new → LearnsThen T P A old new
-  leads_only old new leads = learns_then old old new (learns_nothing old old refl) leads
+  pub leads_only : (old new : SessionState) → A old.directory.nodes old.asks old.asks → Leads old new → LearnsThen N T P A old new
+  leads_only old new asks leads = learns_then old old new (learns_nothing old old asks refl) leads
 
 -- then nodes become known
-pub sets_knows : (T : Table → Table → Type 0) (old mid new : SessionState) → Sets T old mid → Knows mid new → Sets T old new
+pub sets_knows : (T : Table → Table → Type 0) (old mid new : SessionState) → Sets T old mid → Knows (IsInMap mid.directory.table) mid new → Sets T old new
 sets_knows T old mid new learns knows = record {
-  nodes = grows_on old.directory.nodes mid.directory.nodes new.directory.nodes learns.nodes knows.nodes;
+  nodes = subst (λ (s : SessionState). Grows (IsInMap s.directory.table) old.directory.nodes new.directory.nodes) (sym knows.others)
+      (grows_on (IsInMap mid.directory.table) old.directory.nodes mid.directory.nodes new.directory.nodes learns.nodes knows.nodes);
   table = subst (λ (s : SessionState). T old.directory.table s.directory.table ⊎ (s.directory.table ≡ old.directory.table)) (sym knows.others) learns.table;
   peers = subst (λ (s : SessionState). NoPeers old.peers s.peers ⊎ (s.peers ≡ old.peers)) (sym knows.others) learns.peers;
-  asks = subst (λ (s : SessionState). ⊥ ⊎ (s.asks ≡ old.asks)) (sym knows.others) learns.asks;
+  asks = subst (λ (s : SessionState). s.asks ≡ old.asks) (sym knows.others) learns.asks;
   others = knows.others
       ∙ ap (λ (s : SessionState). record s { directory = record s.directory { nodes = new.directory.nodes } }) learns.others
       ∙ ap (λ (s : SessionState). record old { directory = s.directory; peers = s.peers; asks = s.asks }) (sym knows.others);
 }
 
 -- what is learned is also this
-module _ (T U : Table → Table → Type 0) (P Q : Peers → Peers → Type 0) (A B : List Address → Asks → Asks → Type 0) (old new : SessionState) where
-  pub learns_as : ((a b : Table) → T a b → U a b) → ((a b : Peers) → P a b → Q a b) → ((nodes : List Address) (a b : Asks) → A nodes a b → B nodes a b)
-      → Learns T P A old new → Learns U Q B old new
-  learns_as f g h learns = record {
-    nodes = learns.nodes;
+module _ (N M : Table → Address → Type 0) (T U : Table → Table → Type 0) (P Q : Peers → Peers → Type 0) (A B : List Address → Asks → Asks → Type 0) (old new : SessionState) where
+  pub learns_as : ((table : Table) (node : Address) → N table node → M table node) → ((a b : Table) → T a b → U a b) → ((a b : Peers) → P a b → Q a b)
+      → ((nodes : List Address) (a b : Asks) → A nodes a b → B nodes a b) → Learns N T P A old new → Learns M U Q B old new
+  learns_as n f g h learns = record {
+    nodes = grows_as (N new.directory.table) (M new.directory.table) old.directory.nodes new.directory.nodes (n new.directory.table) learns.nodes;
     table = or_stays (f old.directory.table new.directory.table) learns.table;
     peers = or_stays (g old.peers new.peers) learns.peers;
-    asks = or_stays (h new.directory.nodes old.asks new.asks) learns.asks;
+    asks = h new.directory.nodes old.asks new.asks learns.asks;
     others = learns.others;
   }
 
-pub then_as : (T U : Table → Table → Type 0) (P : Peers → Peers → Type 0) (A B : List Address → Asks → Asks → Type 0) (old new : SessionState) → ((a b : Table) → T a b → U a b)
-    → ((nodes : List Address) (a b : Asks) → A nodes a b → B nodes a b) → LearnsThen T P A old new → LearnsThen U P B old new
-then_as T U P A B old new f h then =
-    record { wiser = then.wiser; learns = learns_as T U P P A B old then.wiser f (λ a b p. p) h then.learns; leads = then.leads }
+pub then_as : (N M : Table → Address → Type 0) (T U : Table → Table → Type 0) (P : Peers → Peers → Type 0) (A B : List Address → Asks → Asks → Type 0) (old new : SessionState)
+    → ((table : Table) (node : Address) → N table node → M table node) → ((a b : Table) → T a b → U a b) → ((nodes : List Address) (a b : Asks) → A nodes a b → B nodes a b)
+    → LearnsThen N T P A old new → LearnsThen M U P B old new
+then_as N M T U P A B old new n f h then =
+    record { wiser = then.wiser; learns = learns_as N M T U P P A B old then.wiser n f (λ a b p. p) h then.learns; leads = then.leads }
 
 -- no peer changes
 pub no_peers : (P : Peers → Peers → Type 0) (a b : Peers) → NoPeers a b → P a b
 no_peers P a b none = absurd none
 
 -- what was learned of a part is noted, and then the session goes on
-pub sent_then : (T : SessionState → Table → Table → Type 0) (P : Peers → Peers → Type 0) (A : SessionState → List Address → Asks → Asks → Type 0) (before old mid new : SessionState) → old ≡ before
-    → Learns (T old) NoPeers (A old) old mid → Leads mid new → LearnsThen (T before) P (A before) before new
-sent_then T P A before old mid new same learns leads = subst (λ (s : SessionState). LearnsThen (T s) P (A s) s new) same
-    (learns_then (T old) P (A old) old mid new
-    (learns_as (T old) (T old) NoPeers P (A old) (A old) old mid (λ a b t. t) (no_peers P) (λ n a b s. s) learns) leads)
+pub sent_then : (N : SessionState → Table → Address → Type 0) (T : SessionState → Table → Table → Type 0) (P : Peers → Peers → Type 0) (A : SessionState → List Address → Asks → Asks → Type 0)
+    (before old mid new : SessionState) → old ≡ before → Learns (N old) (T old) NoPeers (A old) old mid → Leads mid new → LearnsThen (N before) (T before) P (A before) before new
+sent_then N T P A before old mid new same learns leads = subst (λ (s : SessionState). LearnsThen (N s) (T s) P (A s) s new) same
+    (learns_then (N old) (T old) P (A old) old mid new
+    (learns_as (N old) (N old) (T old) (T old) NoPeers P (A old) (A old) old mid (λ table node n. n) (λ a b t. t) (no_peers P) (λ n a b s. s) learns) leads)
+
+-- the last refusal of a part, which it keeps, names a node
+kept_joins : (host : List ℕ) (seat : Seat) (reply : List ℕ) (s : State) (table : Table) (node : Address) → IsKeptIn seat.call seat.part reply s → JoinsKept host seat s table node → JoinsRedirect host seat.call seat.part reply s table node
+kept_joins host seat reply s table node kept joins =
+    let same : joins.1 ≡ kept.0 = same_Some joins.1 kept.0 (sym joins.2 ∙ kept.1) in
+    let phase : kept.0.phase ≡ Refused joins.0 = ap (λ (p : PartState). p.phase) (sym same) ∙ joins.3 in
+    subst (λ (r : List ℕ). JoinsRedirect host seat.call seat.part r s table node) (kept_reply reply joins.0 kept.0.phase kept.2 phase) joins.4
+
+-- a part that keeps a reply does not wait
+waits_not : (reply : List ℕ) (phase : Phase) → Keeps reply phase → is_waiting phase ≡ true → ⊥
+waits_not reply phase (inl answered) waits = absurd (cc (ap is_waiting answered, waits))
+waits_not reply phase (inr refused) waits = absurd (cc (ap is_waiting refused, waits))
 
 -- the last refusal of a part, which it keeps, sends it on
-kept_sends : (host : List ℕ) (seat : Seat) (reply : List ℕ) (s : State) (nodes : List Address) (old new : Asks) → IsKeptIn seat.call seat.part reply s → SendsKept host seat s nodes old new → SendsRedirect host seat.call seat.part reply s nodes old new
-kept_sends host seat reply s nodes old new kept sends =
-    let same : sends.1 ≡ kept.0 = same_Some sends.1 kept.0 (sym sends.2 ∙ kept.1) in
-    let phase : kept.0.phase ≡ Refused sends.0 = ap (λ (p : PartState). p.phase) (sym same) ∙ sends.3 in
-    subst (λ (r : List ℕ). SendsRedirect host seat.call seat.part r s nodes old new) (kept_reply reply sends.0 kept.0.phase kept.2 phase) sends.4
+kept_sends : (host : List ℕ) (seat : Seat) (reply : List ℕ) (s : State) (nodes : List Address) (old new : Asks) → IsKeptIn seat.call seat.part reply s → SendsKept host seat s nodes old new → SendsOrForgets host seat.call seat.part reply s nodes old new
+kept_sends host seat reply s nodes old new kept sends = record {
+  asks = by sends;
+  moved = λ it at waits says. absurd (waits_not reply it.phase (subst (λ (p : PartState). Keeps reply p.phase) (same_Some kept.0 it (sym kept.1 ∙ at)) kept.2) waits);
+}
+  where
+    by : SendsKept host seat s nodes old new → SendsRedirect host seat.call seat.part reply s nodes old new ⊎ SetsAsk seat.call seat.part None old new ⊎ (new ≡ old)
+    by (inl sent) =
+        let same : sent.1 ≡ kept.0 = same_Some sent.1 kept.0 (sym sent.2 ∙ kept.1) in
+        let phase : kept.0.phase ≡ Refused sent.0 = ap (λ (p : PartState). p.phase) (sym same) ∙ sent.3 in
+        inl (subst (λ (r : List ℕ). SendsRedirect host seat.call seat.part r s nodes old new) (kept_reply reply sent.0 kept.0.phase kept.2 phase) sent.4)
+    by (inr same) = inr (inr same)
 
 module _ (number : ℕ) (old : SessionState) (machine : State) (new : SessionState) where
   -- what was taken, and what was noted of it
@@ -253,7 +286,7 @@ module _ (number : ℕ) (old : SessionState) (machine : State) (new : SessionSta
       mid = record old { machine = machine }
 
       taken_by : (ticket : Ticket) (reply : List ℕ) → Happens old.machine (On number (link.Take ticket reply)) machine
-          → LearnsThen (LearnsOf mid number ticket reply) (ReadiesOf number ticket reply) (SendsOf mid number ticket reply) mid new → TakesReply number old new
+          → LearnsThen (JoinsOf mid number ticket reply) (LearnsOf mid number ticket reply) (ReadiesOf number ticket reply) (SendsOf mid number ticket reply) mid new → TakesReply number old new
       taken_by ticket reply happens notes = record {
         ticket = ticket;
         reply = reply;
@@ -269,8 +302,8 @@ module _ (number : ℕ) (old : SessionState) (machine : State) (new : SessionSta
       by Nothing is some whole notes = absurd (some refl)
       by (Broken cause) is some whole notes = absurd (whole cause refl)
       by (Kept seat) is some whole notes = let part = ticket.Part seat.call seat.part in taken_by part is.0 is.1
-          (then_as (LearnsKept (host_at number mid) seat machine) (LearnsOf mid number part is.0) (ReadiesOf number part is.0) (SendsKept (host_at number mid) seat machine) (SendsOf mid number part is.0) mid new
-          (λ a b. kept_learns (host_at number mid) seat is.0 machine a b is.2) (λ nodes a b. kept_sends (host_at number mid) seat is.0 machine nodes a b is.2) notes)
+          (then_as (JoinsKept (host_at number mid) seat machine) (JoinsOf mid number part is.0) (LearnsKept (host_at number mid) seat machine) (LearnsOf mid number part is.0) (ReadiesOf number part is.0) (SendsKept (host_at number mid) seat machine) (SendsOf mid number part is.0) mid new
+          (λ table node. kept_joins (host_at number mid) seat is.0 machine table node is.2) (λ a b. kept_learns (host_at number mid) seat is.0 machine a b is.2) (λ nodes a b. kept_sends (host_at number mid) seat is.0 machine nodes a b is.2) notes)
       by (Back seat reply) is some whole notes = taken_by (ticket.Part seat.call seat.part) reply.items is.0 notes
       by (Login reply) is some whole notes = taken_by ticket.Login reply.items is notes
       by (Map count reply) is some whole notes = taken_by (ticket.Map count) reply.items is notes
@@ -279,19 +312,32 @@ module _ (number : ℕ) (old : SessionState) (machine : State) (new : SessionSta
 pub map_noted : (number : ℕ) (took : Took) (count : ℕ) (reply : Vec ℕ Global) (bytes : List ℕ) (old new : SessionState) → took ≡ Map count reply → bytes ≡ reply.items
     → Sets (LearnsReply count (host_at number old) bytes) old new → Notes number took old new
 map_noted number took count reply bytes old new is same sets = subst (λ (t : Took). Notes number t old new) (sym is)
-    (subst (λ (b : List ℕ). LearnsThen (LearnsReply count (host_at number old) b) NoPeers NoAsks old new) same
-    (learns_then (LearnsReply count (host_at number old) bytes) NoPeers NoAsks old new new sets (leads_nowhere new new refl)))
+    (subst (λ (b : List ℕ). LearnsThen IsInMap (LearnsReply count (host_at number old) b) NoPeers NoAsks old new) same
+    (learns_then IsInMap (LearnsReply count (host_at number old) bytes) NoPeers NoAsks old new new sets (leads_nowhere new new refl)))
+
+-- nothing was taken, so no part is sent anywhere
+pub sends_none : (s : SessionState) (number : ℕ) (took : Took) → (took ≡ Nothing) ⊎ ((cause : BreakCause) × (took ≡ Broken cause)) → SendsTook s number took s.directory.nodes s.asks s.asks
+sends_none s number took (inl is) = subst (λ (t : Took). SendsTook s number t s.directory.nodes s.asks s.asks) (sym is) refl
+sends_none s number took (inr is) = subst (λ (t : Took). SendsTook s number t s.directory.nodes s.asks s.asks) (sym is.1) refl
+
+pub back_noted : (number : ℕ) (took : Took) (seat : Seat) (reply : Vec ℕ Global) (bytes : List ℕ) (old new : SessionState) → took ≡ Back seat reply → bytes ≡ reply.items
+    → LearnsThen (JoinsRedirect (host_at number old) seat.call seat.part bytes old.machine) (LearnsRedirect (host_at number old) seat.call seat.part bytes old.machine) NoPeers
+    (SendsOrForgets (host_at number old) seat.call seat.part bytes old.machine) old new → Notes number took old new
+back_noted number took seat reply bytes old new is same learns = subst (λ (t : Took). Notes number t old new) (sym is)
+    (subst (λ (b : List ℕ). LearnsThen (JoinsRedirect (host_at number old) seat.call seat.part b old.machine) (LearnsRedirect (host_at number old) seat.call seat.part b old.machine) NoPeers
+    (SendsOrForgets (host_at number old) seat.call seat.part b old.machine) old new) same learns)
 
 pub login_noted : (number : ℕ) (took : Took) (reply : Vec ℕ Global) (bytes : List ℕ) (old new : SessionState) → took ≡ Login reply → bytes ≡ reply.items
     → Hails number bytes old new → Notes number took old new
 login_noted number took reply bytes old new is same hails = subst (λ (t : Took). Notes number t old new) (sym is)
-    (subst (λ (b : List ℕ). LearnsThen (LearnsTook old number (Login reply)) (Readies number b) NoAsks old new) same (record {
+    (subst (λ (b : List ℕ). LearnsThen (JoinsTook old number (Login reply)) (LearnsTook old number (Login reply)) (Readies number b) NoAsks old new) same (record {
       wiser = new;
       learns = record {
-        nodes = subst (λ (s : SessionState). Grows old.directory.nodes s.directory.nodes) (sym hails.others) (grows_not old.directory.nodes);
+        nodes = subst (λ (s : SessionState). Grows (JoinsTook old number (Login reply) new.directory.table) old.directory.nodes s.directory.nodes) (sym hails.others)
+            (grows_not (JoinsTook old number (Login reply) new.directory.table) old.directory.nodes);
         table = inr (ap (λ (s : SessionState). s.directory.table) hails.others);
         peers = hails.peers;
-        asks = inr (ap (λ (s : SessionState). s.asks) hails.others);
+        asks = ap (λ (s : SessionState). s.asks) hails.others;
         others = hails.others ∙ ap (λ (s : SessionState). record old { directory = s.directory; peers = new.peers; asks = s.asks }) (sym hails.others);
       };
       leads = leads_nowhere new new refl;

@@ -1,9 +1,11 @@
 mod AddedRows
 pub mod Begins
+mod Elements
 pub mod GivenReplies
 mod KeptDeadlines
 mod KeptRules
 pub mod Leads
+mod Listed
 mod NodeTables
 mod OwnSlots
 mod PartLists

@@ -11,13 +11,14 @@ use Rattle.session_core.specs.Part.{PartState, Refused}
 use Rattle.session_core.specs.State.{State, part_at}
 use Rattle.cluster_slots.specs.Address.{Address}
 use Rattle.redis_routing.specs.declared.info.Redirect.TheVariants.{Ask, Moved}
-use Rattle.redis_session.specs.Asks.{Asks, SendsPart}
+use Rattle.redis_session.specs.Asks.{Asks, SetsAsk}
 use Rattle.redis_session.specs.Directory.{Directory, Grows}
-use Rattle.redis_session.specs.Learned.{IsRedirectIn, Learns, LearnsKept, LearnsRedirect, LearnsReply, LearnsTold, NoPeers, SendsKept, SendsOn, SendsRedirect, SendsTold, Sets}
+use Rattle.redis_session.specs.Learned.{IsInMap, IsRedirectIn, JoinsKept, JoinsRedirect, JoinsTold, Learns, LearnsKept, LearnsRedirect, LearnsReply, LearnsTold, ForgetsAsk, IsSentOn, MaySend, NoPeers, SendsKept, SendsOn, SendsOrForgets, SendsRedirect, SendsTold, Sets, host_at}
 use Rattle.redis_session.specs.Leads.{Knows}
 use Rattle.redis_session.specs.Table.{LearnsMoved, Table}
 use Rattle.redis_session.specs.SessionStates.{SessionState}
-use Rattle.redis_session.proofs.Leads.{grows_not, learns_as}
+use Rattle.redis_session.proofs.Leads.{grows_as, grows_not, learns_as, or_stays}
+use Rattle.redis_session.proofs.SentParts.{unset}
 
 -- bytes without what they begin with
 stripped : (n : ℕ) (bytes prefix rest : List ℕ) → bytes_eq (take n bytes) prefix ≡ true → rest ≡ drop n bytes → bytes ≡ prefix ++ rest
@@ -45,36 +46,70 @@ redirect_read answering text reply (Err y) is read = tt
 module _ (host : List ℕ) (it : PartState) (s : State) (seat : Seat) (there : part_at seat.call seat.part s ≡ Some it) (old new : SessionState) where
   -- a refusal of the part
   pub told_learns : {E : Type 0} (reply : List ℕ) (told : Result (Option (ℕ × Redirect)) E) → IfOk told (λ t. IfSome t (λ to. SendsOn host it reply to.0 to.1))
-      → Learns (LearnsTold told) NoPeers (SendsTold seat told) old new → Learns (LearnsRedirect host seat.call seat.part reply s) NoPeers (SendsRedirect host seat.call seat.part reply s) old new
+      → Learns (JoinsTold told) (LearnsTold told) NoPeers (SendsTold seat told) old new
+      → Learns (JoinsRedirect host seat.call seat.part reply s) (LearnsRedirect host seat.call seat.part reply s) NoPeers (MaySend host seat.call seat.part reply s) old new
   told_learns {E = E} reply told sends =
-      learns_as (LearnsTold told) (LearnsRedirect host seat.call seat.part reply s) NoPeers NoPeers (SendsTold seat told) (SendsRedirect host seat.call seat.part reply s) old new
-      as_redirect (λ a b none. none) as_sent
+      learns_as (JoinsTold told) (JoinsRedirect host seat.call seat.part reply s) (LearnsTold told) (LearnsRedirect host seat.call seat.part reply s) NoPeers NoPeers (SendsTold seat told) (MaySend host seat.call seat.part reply s) old new
+      as_named as_redirect (λ a b none. none) as_sent
     where
       is_sent : (slot : ℕ) (redirect : Redirect) → told ≡ Ok (Some (slot, redirect)) → SendsOn host it reply slot redirect
       is_sent slot redirect is = subst (λ (t : Result (Option (ℕ × Redirect)) E). IfOk t (λ o. IfSome o (λ to. SendsOn host it reply to.0 to.1))) is sends
 
+      as_named : (table : Table) (node : Address) → JoinsTold told table node → JoinsRedirect host seat.call seat.part reply s table node
+      as_named table node j = record { it = it; part_is = there; slot = j.0; redirect = j.1; sent = is_sent j.0 j.1 j.2; named = j.3 }
+
       as_redirect : (a b : Table) → LearnsTold told a b → LearnsRedirect host seat.call seat.part reply s a b
       as_redirect a b l = record { it = it; part_is = there; slot = l.0; node = l.1; sent = is_sent l.0 (Moved l.1) l.2; learns = l.3 }
 
-      as_sent : (nodes : List Address) (a b : Asks) → SendsTold seat told nodes a b → SendsRedirect host seat.call seat.part reply s nodes a b
-      as_sent nodes a b l =
-          record { it = it; part_is = there; slot = l.0; address = l.1; sent = is_sent l.0 (Ask l.1) l.2; node = l.3; node_is = l.4; sends = l.5 }
+      as_sent : (nodes : List Address) (a b : Asks) → SendsTold seat told nodes a b → MaySend host seat.call seat.part reply s nodes a b
+      as_sent nodes a b (inl l) =
+          inl (record { it = it; part_is = there; slot = l.0; address = l.1; sent = is_sent l.0 (Ask l.1) l.2; node = l.3; node_is = l.4; sends = l.5 })
+      as_sent nodes a b (inr same) = inr same
 
 pub kept_learned : (host : List ℕ) (it : PartState) (s : State) (seat : Seat) (reply : List ℕ) (old new : SessionState) → part_at seat.call seat.part s ≡ Some it → it.phase ≡ Refused reply
-    → Learns (LearnsRedirect host seat.call seat.part reply s) NoPeers (SendsRedirect host seat.call seat.part reply s) old new → Learns (LearnsKept host seat s) NoPeers (SendsKept host seat s) old new
+    → Learns (JoinsRedirect host seat.call seat.part reply s) (LearnsRedirect host seat.call seat.part reply s) NoPeers (MaySend host seat.call seat.part reply s) old new
+    → Learns (JoinsKept host seat s) (LearnsKept host seat s) NoPeers (SendsKept host seat s) old new
 kept_learned host it s seat reply old new there refused =
-    learns_as (LearnsRedirect host seat.call seat.part reply s) (LearnsKept host seat s) NoPeers NoPeers (SendsRedirect host seat.call seat.part reply s) (SendsKept host seat s) old new
-    (λ a b learns. (reply, it, there, refused, learns)) (λ a b none. none) (λ nodes a b sends. (reply, it, there, refused, sends))
+    learns_as (JoinsRedirect host seat.call seat.part reply s) (JoinsKept host seat s) (LearnsRedirect host seat.call seat.part reply s) (LearnsKept host seat s) NoPeers NoPeers (MaySend host seat.call seat.part reply s) (SendsKept host seat s) old new
+    (λ table node joins. (reply, it, there, refused, joins)) (λ a b learns. (reply, it, there, refused, learns)) (λ a b none. none) (λ nodes a b sends. or_stays (λ sent. (reply, it, there, refused, sent)) sends)
+
+-- what was learned of a refusal, and then a `MOVED` forgets where the part was sent
+pub then_forgets : (link call part : ℕ) (reply : List ℕ) (old mid new : SessionState) → IsSentOn link call part reply old mid → ForgetsAsk call part reply mid new
+    → Learns (JoinsRedirect (host_at link old) call part reply old.machine) (LearnsRedirect (host_at link old) call part reply old.machine) NoPeers (SendsOrForgets (host_at link old) call part reply old.machine) old new
+then_forgets link call part reply old mid new learns forgets = record {
+  nodes = subst (λ (s : SessionState). Grows (JoinsRedirect (host_at link old) call part reply old.machine s.directory.table) old.directory.nodes s.directory.nodes) (sym forgets.others) learns.nodes;
+  table = subst (λ (s : SessionState). LearnsRedirect (host_at link old) call part reply old.machine old.directory.table s.directory.table ⊎ (s.directory.table ≡ old.directory.table)) (sym forgets.others) learns.table;
+  peers = subst (λ (s : SessionState). NoPeers old.peers s.peers ⊎ (s.peers ≡ old.peers)) (sym forgets.others) learns.peers;
+  asks = record {
+    asks = subst (λ (d : Directory). Asked d.nodes new.asks) (ap (λ (s : SessionState). s.directory) (sym forgets.others)) (by learns.asks forgets.asks);
+    moved = λ it at waits says. forgets.moved says;
+  };
+  others = forgets.others ∙ ap (λ (s : SessionState). record s { asks = new.asks }) learns.others
+      ∙ ap (λ (s : SessionState). record old { directory = s.directory; peers = s.peers; asks = new.asks }) (sym forgets.others);
+}
+  where
+    Asked : List Address → Asks → Type 0
+    Asked nodes asks = SendsRedirect (host_at link old) call part reply old.machine nodes old.asks asks ⊎ SetsAsk call part None old.asks asks ⊎ (asks ≡ old.asks)
+
+    stays : MaySend (host_at link old) call part reply old.machine mid.directory.nodes old.asks mid.asks → Asked mid.directory.nodes mid.asks
+    stays (inl sent) = inl sent
+    stays (inr same) = inr (inr same)
+
+    by : MaySend (host_at link old) call part reply old.machine mid.directory.nodes old.asks mid.asks → SetsAsk call part None mid.asks new.asks ⊎ (new.asks ≡ mid.asks) → Asked mid.directory.nodes new.asks
+    by sent (inr same) = subst (Asked mid.directory.nodes) (sym same) (stays sent)
+    by (inl sent) (inl forgot) = inr (inl (unset call part (Some sent.node) old.asks mid.asks new.asks sent.sends forgot))
+    by (inr same) (inl forgot) = inr (inl (subst (λ (a : Asks). SetsAsk call part None a new.asks) same forgot))
 
 -- a node became known, and then the table learned of it
-pub told_moved : {E : Type 0} (told : Result (Option (ℕ × Redirect)) E) (seat : Seat) (slot : ℕ) (node : Address) (old mid new : SessionState) → told ≡ Ok (Some (slot, Moved node)) → Knows old mid
+pub told_moved : {E : Type 0} (told : Result (Option (ℕ × Redirect)) E) (seat : Seat) (slot : ℕ) (node : Address) (old mid new : SessionState) → told ≡ Ok (Some (slot, Moved node)) → Knows (λ known. known ≡ node) old mid
     → LearnsMoved slot node mid.directory.table new.directory.table → new ≡ record mid { directory = record mid.directory { table = new.directory.table } }
-    → Learns (LearnsTold told) NoPeers (SendsTold seat told) old new
+    → Learns (JoinsTold told) (LearnsTold told) NoPeers (SendsTold seat told) old new
 told_moved told seat slot node old mid new is knows learns others =
     let then : new ≡ record old { directory = record mid.directory { table = new.directory.table } } =
     others ∙ ap (λ (s : SessionState). record s { directory = record mid.directory { table = new.directory.table } }) knows.others in
     record {
-      nodes = subst (λ (s : SessionState). Grows old.directory.nodes s.directory.nodes) (sym others) knows.nodes;
+      nodes = subst (λ (s : SessionState). Grows (JoinsTold told new.directory.table) old.directory.nodes s.directory.nodes) (sym others)
+          (grows_as (λ known. known ≡ node) (JoinsTold told new.directory.table) old.directory.nodes mid.directory.nodes (λ known same. (slot, Moved node, is, sym same)) knows.nodes);
       table = inl (slot, node, is, subst (λ (t : Table). LearnsMoved slot node t new.directory.table) (ap (λ (s : SessionState). s.directory.table) knows.others) learns);
       peers = inr (ap (λ (s : SessionState). s.peers) then);
       asks = inr (ap (λ (s : SessionState). s.asks) then);
@@ -82,14 +117,15 @@ told_moved told seat slot node old mid new is knows learns others =
     }
 
 -- a node became known, and the part is sent there once
-pub told_asked : {E : Type 0} (told : Result (Option (ℕ × Redirect)) E) (seat : Seat) (slot node : ℕ) (address : Address) (old mid new : SessionState) → told ≡ Ok (Some (slot, Ask address)) → Knows old mid
-    → slice_get mid.directory.nodes node ≡ Some address → SendsPart seat.call seat.part node mid.asks new.asks → new ≡ record mid { asks = new.asks }
-    → Learns (LearnsTold told) NoPeers (SendsTold seat told) old new
+pub told_asked : {E : Type 0} (told : Result (Option (ℕ × Redirect)) E) (seat : Seat) (slot node : ℕ) (address : Address) (old mid new : SessionState) → told ≡ Ok (Some (slot, Ask address)) → Knows (λ known. known ≡ address) old mid
+    → slice_get mid.directory.nodes node ≡ Some address → SetsAsk seat.call seat.part (Some node) mid.asks new.asks → new ≡ record mid { asks = new.asks }
+    → Learns (JoinsTold told) (LearnsTold told) NoPeers (SendsTold seat told) old new
 told_asked told seat slot node address old mid new is knows node_is sends others =
     let then : new ≡ record old { directory = mid.directory; asks = new.asks } =
     others ∙ ap (λ (s : SessionState). record s { directory = mid.directory; asks = new.asks }) knows.others in
     record {
-      nodes = subst (λ (s : SessionState). Grows old.directory.nodes s.directory.nodes) (sym others) knows.nodes;
+      nodes = subst (λ (s : SessionState). Grows (JoinsTold told new.directory.table) old.directory.nodes s.directory.nodes) (sym others)
+          (grows_as (λ known. known ≡ address) (JoinsTold told new.directory.table) old.directory.nodes mid.directory.nodes (λ known same. (slot, Ask address, is, sym same)) knows.nodes);
       table = inr (ap (λ (s : SessionState). s.directory.table) others ∙ ap (λ (s : SessionState). s.directory.table) knows.others);
       peers = inr (ap (λ (s : SessionState). s.peers) then);
       asks = inl (
@@ -98,7 +134,7 @@ told_asked told seat slot node address old mid new is knows node_is sends others
         is,
         node,
         subst (λ (s : SessionState). slice_get s.directory.nodes node ≡ Some address) (sym others) node_is,
-        subst (λ (a : Asks). SendsPart seat.call seat.part node a new.asks) (ap (λ (s : SessionState). s.asks) knows.others) sends,
+        subst (λ (a : Asks). SetsAsk seat.call seat.part (Some node) a new.asks) (ap (λ (s : SessionState). s.asks) knows.others) sends,
       );
       others = subst (λ (s : SessionState). s ≡ record old { directory = s.directory; peers = s.peers; asks = s.asks }) (sym then) refl;
     }
@@ -111,10 +147,10 @@ pub filled_sets : {E : Type 0} (asked : ℕ) (host reply : List ℕ) (result : R
 filled_sets {E = E} asked host reply result before old directory same learns stays fails others =
     subst (λ (s : SessionState). Sets (LearnsReply asked host reply) s (record before { directory = directory })) same
     (record {
-      nodes = subst (λ (d : Directory). Grows before.directory.nodes d.nodes) (sym others) (grows_not before.directory.nodes);
+      nodes = subst (λ (d : Directory). Grows (IsInMap directory.table) before.directory.nodes d.nodes) (sym others) (grows_not (IsInMap directory.table) before.directory.nodes);
       table = by result learns stays fails;
       peers = inr refl;
-      asks = inr refl;
+      asks = refl;
       others = refl;
     })
   where

@@ -1,8 +1,9 @@
 -- The tables in the code have the names of those in specs/.
-use Rattle.std.proofs.Common.{◌≡◌, ℕ, ◌<◌, ◌≤◌, List, [], ◌∷◌, ◌++◌, Bool, true, false, ◌||◌, None, refl, sym, ap, ◌∙◌, map, get_or, length, arith}
+use Rattle.std.proofs.Common.{◌≡◌, ℕ, zero, suc, ◌<◌, ◌≤◌, List, [], ◌∷◌, ◌++◌, Bool, true, false, ◌||◌, None, refl, sym, ap, ◌∙◌, map, get_or, length, arith}
 use Rattle.std.specs.Prelude.{nat_le, nat_lt}
 use Rattle.std.specs.List.{list_all}
 use Rattle.std.specs.Str.{bytes_eq}
+use Rattle.std.proofs.lemmas.Bool.{or_right}
 use Rattle.std.proofs.lemmas.Bool.Decides.{nat_tests}
 use Rattle.std.proofs.lemmas.List.{length-map}
 use Rattle.std.proofs.lemmas.List.Folds.{list_any-append}
@@ -117,6 +118,16 @@ module _ (n : List ℕ) where
 
   pub in_x_to_z : 88 ≤ letter n → has_name names_x_to_z n ≡ has_name plain_names n
   in_x_to_z above = in_second 88 names_s_to_u names_x_to_z n refl above ∙ after_r (omega arith)
+
+module _ {X : Type 0} (key : X → List ℕ) where
+  has_name-at : (xs : List X) (n : List ℕ) (i : ℕ) (d : X) → i < length xs → bytes_eq (key (get_or xs i d)) n ≡ true → has_name (map key xs) n ≡ true
+  has_name-at [] n i d inside same = absurd (omega arith)
+  has_name-at (x ∷ xs) n zero d inside same = rw same refl
+  has_name-at (x ∷ xs) n (suc i) d inside same = or_right (bytes_eq (key x) n) (has_name (map key xs) n) (has_name-at xs n i d (omega arith) same)
+
+  -- a test that finds a name at an index
+  pub listed_at : (xs : List X) (n : List ℕ) (i : ℕ) (d : X) (b : Bool) → i < length xs → b ≡ bytes_eq (key (get_or xs i d)) n → b ≡ true → has_name (map key xs) n ≡ true
+  listed_at xs n i d b inside test held = has_name-at xs n i d inside (sym test ∙ held)
 
 pub no_empty_name : (n : List ℕ) → length n ≡ 0 → false ≡ has_name plain_names n
 unfolding plain_names

@@ -1,5 +1,5 @@
 -- Where parts were sent by `ASK`.
-use Rattle.std.specs.Prelude.{◌≡◌, ◌⊎◌, ℕ, List, Option, Some}
+use Rattle.std.specs.Prelude.{◌≡◌, ◌≢◌, ℕ, List, Option}
 use Rattle.std.specs.BTreeMap.{is_at}
 use Rattle.std.specs.declared.cmp.Ordering.{Ordering}
 use Rattle.std.specs.Map.{lookup}
@@ -16,12 +16,11 @@ seat_cmp x y = ordering_then (nat_cmp x.0 y.0) (nat_cmp x.1 y.1)
 abbrev pub asked_node : (call part : ℕ) → Asks → Option ℕ
 asked_node call part asks = lookup (is_at (seat_cmp (call, part))) asks
 
--- The part was sent to this node. Each other part was sent where it was sent before, if that is kept.
-pub record SendsPart (call part node : ℕ) (old new : Asks) : Type 0 where
-  pub sent : asked_node call part new ≡ Some node
-  pub others : (c p n : ℕ) → asked_node c p new ≡ Some n
-      → ((c ≡ call) × (p ≡ part)) ⊎ (asked_node c p old ≡ Some n)
+-- This is where the last `ASK` sent the part now, or nowhere. Each other part was sent where it was sent before.
+pub record SetsAsk (call part : ℕ) (node : Option ℕ) (old new : Asks) : Type 0 where
+  pub is : asked_node call part new ≡ node
+  pub others : (c p : ℕ) → ((c ≡ call) × (p ≡ part) → ⊥) → asked_node c p new ≡ asked_node c p old
 
--- what is kept was kept before
-abbrev pub AreFewer : Asks → Asks → Type 0
-AreFewer old new = (c p n : ℕ) → asked_node c p new ≡ Some n → asked_node c p old ≡ Some n
+-- each part of another call was sent where it was sent before
+abbrev pub KeepsOtherAsks : (call : ℕ) → Asks → Asks → Type 0
+KeepsOtherAsks call old new = (c p : ℕ) → c ≢ call → asked_node c p new ≡ asked_node c p old

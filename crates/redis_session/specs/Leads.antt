@@ -1,5 +1,5 @@
 -- What a session does by itself, between what its shell reports.
-use Rattle.std.specs.Prelude.{◌≡◌, ◌≢◌, ◌⊎◌, ◌++◌, ◌∷◌, [], ℕ, zero, suc, max, List, Bool, true, false, Option, None, Some, ◌||◌, ◌==◌, codes, length}
+use Rattle.std.specs.Prelude.{◌≡◌, ◌≢◌, ◌⊎◌, ◌++◌, ◌∷◌, [], ℕ, zero, suc, max, List, Bool, true, false, Option, None, Some, ◌||◌, ◌==◌, codes, length, slice_get}
 use Rattle.std.specs.List.{list_all}
 use Rattle.session_core.specs.declared.link.Standing.{Standing}
 use Rattle.session_core.specs.declared.part.Cause.{Cause}
@@ -15,7 +15,7 @@ use Rattle.session_core.specs.State.{CallState, Event, Open, On, Forget, Begin, 
 use Rattle.session_core.specs.Part.{PartState, is_done}
 use Rattle.session_machine.specs.declared.took.Took.{Took}
 use Rattle.cluster_slots.specs.Address.{Address}
-use Rattle.redis_session.specs.Asks.{AreFewer, Asks, asked_node}
+use Rattle.redis_session.specs.Asks.{Asks, KeepsOtherAsks, asked_node}
 use Rattle.redis_session.specs.Loads.{HasRoom, Lightens, heavier}
 use Rattle.redis_session.specs.Refusals.{IsCallRefused}
 use Rattle.redis_session.specs.declared.refusal.CallRefusal.{CallRefusal}
@@ -23,32 +23,39 @@ use Rattle.redis_session.specs.declared.refusal.CallRefusal.TheVariants.{Limit}
 use Rattle.redis_session.specs.Begins.{IsErrand}
 use Rattle.redis_session.specs.CallReplies.{IsReplyTo}
 use Rattle.redis_session.specs.Deadlines.{Forgets, deadline_of, is_over}
-use Rattle.redis_session.specs.Directory.{Directory, Grows, IsNodeOf}
-use Rattle.redis_session.specs.Learned.{Learns, LearnsOf, LearnsTook, Readies, ReadiesOf, ReadiesTook, SendsOf, SendsTook}
+use Rattle.redis_session.specs.Directory.{Directory, Grows, IsNodeOf, IsPrimary}
+use Rattle.redis_session.specs.Learned.{JoinsOf, JoinsTook, Learns, LearnsOf, LearnsTook, Readies, ReadiesOf, ReadiesTook, SendsOf, SendsTook}
 use Rattle.redis_session.specs.Peers.{IsReadyTo, Peers, SetsPeer, peer_at}
-use Rattle.redis_session.specs.Rules.{KeepOthers, is_several, node_in, rule_in, without}
+use Rattle.redis_session.specs.Rules.{KeepOthers, is_several, rule_in, without}
 use Rattle.redis_session.specs.SessionStates.{SessionState, is_reply_of, last_reply, names, without_reply}
 use Rattle.redis_session.specs.Table.{Table}
 use Rattle.redis_session.specs.declared.peers.Peer.{Peer}
 use Rattle.redis_session.specs.declared.rules.ReplyRule.{ReplyRule}
+use Rattle.redis_session.specs.declared.rules.ReplyRule.TheVariants.{Several}
 
 -- the request for the map
 abbrev pub map_request : List ℕ
 map_request = request_of (codes "CLUSTER" ∷ codes "SLOTS" ∷ [])
 
--- A part of this call may be ended for this cause. It is late, or without a node, only if the time of the call is over. A
--- command to several nodes is without a node as soon as one of them left the map.
+-- The session may end a part of this call for this cause. The part is late, or without a node, only if the time of the
+-- call is over. A command to several nodes may also be without a node before that, since one of them left the map. A
+-- part that was given up is ended with its whole call, and not by the session itself.
 abbrev pub may_end : SessionState → ℕ → Cause → Bool
 may_end s call Late = is_over (deadline_of call s.deadlines) s.now
 may_end s call NoNode = is_over (deadline_of call s.deadlines) s.now || is_several (rule_in s.rules call)
 may_end s call Overtaken = true
-may_end s call GivenUp = true
+may_end s call GivenUp = false
 
--- The node of this number serves a part of this order, whose call has this rule: the node of its slot, or the one of
--- several nodes that the part is for. A part of neither kind is served by each node.
+-- The node of this number serves a part without a slot, whose call has this rule: it is the one of several nodes that
+-- the part is for, or else a primary of the map.
+abbrev pub IsNodeBy : Directory → ReplyRule → (part : ℕ) → ℕ → Type 0
+IsNodeBy directory (Several policy nodes) part node = slice_get nodes.items part ≡ Some node
+IsNodeBy directory other part node = IsPrimary node directory
+
+-- The node of this number serves a part of this order: it is the node of the part's slot, if that has one.
 abbrev pub IsNodeFor : Directory → ReplyRule → (part : ℕ) → PartOrder → ℕ → Type 0
 IsNodeFor directory rule part (OfSlot slot) node = IsNodeOf slot node directory
-IsNodeFor directory rule part other node = is_several rule ≡ true → node_in rule part ≡ Some node
+IsNodeFor directory rule part other node = IsNodeBy directory rule part node
 
 -- the node of this number serves the part
 abbrev pub Serves : SessionState → (call part node : ℕ) → Type 0
@@ -87,9 +94,9 @@ IsOwn s (Leave call) = is_reply_of call s.given ≡ false
 IsOwn s Trim = Unit {0}
 IsOwn s other = ⊥
 
--- With a call that leaves, the session keeps one less, and may forget where its parts were sent.
+-- With a call that leaves, the session keeps one call less, and may forget where `ASK` sent the parts of this call.
 abbrev pub Frees : Event → SessionState → SessionState → Type 0
-Frees (Leave call) old new = AreFewer old.asks new.asks × Lightens old.load new.load
+Frees (Leave call) old new = KeepsOtherAsks call old.asks new.asks × Lightens old.load new.load
 Frees other old new = (new.asks ≡ old.asks) × (new.load ≡ old.load)
 
 -- This happens to the links and calls of a session, and nothing else of it changes.
@@ -108,9 +115,9 @@ pub record Leads (old new : SessionState) : Type 0 where
   pub events : List Event
   pub acts : Acts old events new
 
--- The session may come to know more nodes. Nothing else changes.
-pub record Knows (old new : SessionState) : Type 0 where
-  pub nodes : Grows old.directory.nodes new.directory.nodes
+-- The session may come to know more nodes. Each of them may join. Nothing else changes.
+pub record Knows (MayJoin : Address → Type 0) (old new : SessionState) : Type 0 where
+  pub nodes : Grows MayJoin old.directory.nodes new.directory.nodes
   pub others : new ≡ record old { directory = record old.directory { nodes = new.directory.nodes } }
 
 -- The shell says that it is this time. The session notes it, unless the time that it noted before is later. Then the
@@ -137,8 +144,8 @@ pub record TakesReply (number : ℕ) (old new : SessionState) : Type 0 where
   pub mid : SessionState
   pub taken : Does (On number (link.Take ticket reply)) old mid
   pub wiser : SessionState
-  pub learns : Learns (LearnsOf mid number ticket reply) (ReadiesOf number ticket reply)
-      (SendsOf mid number ticket reply) mid wiser
+  pub learns : Learns (JoinsOf mid number ticket reply) (LearnsOf mid number ticket reply)
+      (ReadiesOf number ticket reply) (SendsOf mid number ticket reply) mid wiser
   pub leads : Leads wiser new
 
 -- so many, one after the other
@@ -147,16 +154,16 @@ TakesReplies zero number old new = new ≡ old
 TakesReplies (suc count) number old new = (mid : SessionState) × TakesReply number old mid × TakesReplies count number mid new
 
 -- The session learns this, and goes on by itself.
-pub record LearnsThen (HowTable : Table → Table → Type 0) (HowPeers : Peers → Peers → Type 0) (HowAsks : List Address → Asks → Asks → Type 0)
-    (old new : SessionState) : Type 0 where
+pub record LearnsThen (MayJoin : Table → Address → Type 0) (HowTable : Table → Table → Type 0) (HowPeers : Peers → Peers → Type 0)
+    (HowAsks : List Address → Asks → Asks → Type 0) (old new : SessionState) : Type 0 where
   pub wiser : SessionState
-  pub learns : Learns HowTable HowPeers HowAsks old wiser
+  pub learns : Learns MayJoin HowTable HowPeers HowAsks old wiser
   pub leads : Leads wiser new
 
 -- What was taken on this link is noted: the session learns of it, and goes on by itself.
 abbrev pub Notes : ℕ → Took → SessionState → SessionState → Type 0
 Notes number took old new =
-    LearnsThen (LearnsTook old number took) (ReadiesTook number took) (SendsTook old number took) old new
+    LearnsThen (JoinsTook old number took) (LearnsTook old number took) (ReadiesTook number took) (SendsTook old number took) old new
 
 -- Replies are taken on this link, and then the session goes on by itself.
 pub record TakesAll (number : ℕ) (old new : SessionState) : Type 0 where

@@ -1,8 +1,8 @@
 //! Where parts were sent by `ASK`.
-#![tactic(auto, using(crate::proofs::SentParts::fewer_on))]
+#![tactic(auto, using(crate::proofs::SentParts::others_on))]
 
-ghost use Rattle.std.specs.Prelude.{◌≡◌, [], OnOk, OnErr};
-ghost use Rattle.redis_session.specs.Asks.{AreFewer, SendsPart, asked_node};
+ghost use Rattle.std.specs.Prelude.{◌≡◌, [], OnOk, OnErr, None, Some};
+ghost use Rattle.redis_session.specs.Asks.{KeepsOtherAsks, SetsAsk, asked_node};
 
 use session_core::Seat;
 use std::alloc::{AllocError, Global};
@@ -47,7 +47,7 @@ impl Asks {
     ///
     /// If memory runs out. Nothing changes then.
     pub(crate) fn add(&mut self, seat: Seat, node: usize) -> Result<(), AllocError>
-        ensures sent { OnOk result (SendsPart seat.call seat.part node self.old self.new) }
+        ensures sent { OnOk result (SetsAsk seat.call seat.part (Some node) self.old self.new) }
         ensures err { OnErr result (self.new ≡ self.old) }
     {
         self.nodes.insert((seat.call, seat.part), node)?;
@@ -56,7 +56,7 @@ impl Asks {
 
     /// Forgets the nodes of the first parts of a call, so many.
     pub(crate) fn forget_call(&mut self, call: u64, count: usize)
-        ensures { AreFewer self.old self.new }
+        ensures { KeepsOtherAsks call self.old self.new }
     {
         if self.nodes.is_empty() {
             return;
@@ -67,8 +67,8 @@ impl Asks {
     }
 
     /// Forgets the node of a part.
-    fn forget(&mut self, seat: Seat)
-        ensures { AreFewer self.old self.new }
+    pub(crate) fn forget(&mut self, seat: Seat)
+        ensures { SetsAsk seat.call seat.part None self.old self.new }
     {
         self.nodes.remove(&(seat.call, seat.part));
     }

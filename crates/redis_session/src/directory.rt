@@ -1,11 +1,11 @@
 //! The nodes that a session knows, and which of them serves each slot.
-#![tactic(auto, using(crate::proofs::SlotNumbers::nodes_grow, crate::proofs::SlotNumbers::nodes_kept, crate::proofs::SlotNumbers::nodes_moved, crate::proofs::SlotNumbers::sets_first))]
+#![tactic(auto, using(crate::proofs::SlotNumbers::kept_grow, crate::proofs::SlotNumbers::kept_number, crate::proofs::SlotNumbers::kept_moved, crate::proofs::SlotNumbers::kept_primaries, crate::proofs::SlotNumbers::sets_first))]
 
-ghost use Rattle.std.specs.Prelude.{◌≡◌, ◌≢◌, ◌++◌, ◌∷◌, [], true, false, IfOk, IfSome, IfNone, OnOk, OnErr, length, slice_get, Some};
+ghost use Rattle.std.specs.Prelude.{◌≡◌, ◌≢◌, ◌≤◌, ◌++◌, ◌∷◌, [], true, false, IfOk, IfSome, IfNone, OnOk, OnErr, All, length, slice_get, Some};
 ghost use Rattle.cluster_map.specs.Targets.{addresses_behind};
-ghost use Rattle.redis_session.specs.Directory.{AreNumbersOf, IsNodeOf};
+ghost use Rattle.redis_session.specs.Directory.{AreNumbersOf, IsKnownAmong, IsNodeOf, IsPrimary};
 ghost use Rattle.redis_session.specs.Inner.SlotNumbers.{SetsNumber};
-ghost use Rattle.redis_session.specs.Learned.{LearnsReply, host_in};
+ghost use Rattle.redis_session.specs.Learned.{IsInMap, LearnsReply, host_in};
 ghost use Rattle.redis_session.specs.Table.{LearnsMoved, group_in};
 
 use crate::table::SlotTable;
@@ -34,17 +34,21 @@ pub(crate) struct Directory {
     numbers: BTreeMap<NodeAddress, usize>,
     /// The number of the node of each slot, as far as it was looked up since the last change. It may be empty.
     by_slot: Vec<u16>,
+    /// The numbers of the primaries of the map that are known. It is empty if they were not looked up since the map was
+    /// learned.
+    primaries: Vec<usize>,
 }
 
 impl Model for Directory {
     ghost use Rattle.redis_session.specs.Directory.{Directory};
-    ghost use Rattle.redis_session.specs.Inner.SlotNumbers.{AreNodes};
+    ghost use Rattle.redis_session.specs.Inner.SlotNumbers.{AreKept};
 
     ghost Value = { Directory };
 
     ghost view = { λ d. record { nodes = d.addresses.items; table = d.table } };
 
-    ghost invariant = { λ d. AreNodes d.by_slot.items (record { nodes = d.addresses.items; table = d.table }) };
+    ghost invariant = { λ d. AreKept d.by_slot.items d.primaries.items
+        (record { nodes = d.addresses.items; table = d.table }) };
 }
 
 impl Directory {
@@ -57,6 +61,7 @@ impl Directory {
             addresses: Vec::new(alloc),
             numbers: BTreeMap::new(alloc),
             by_slot: Vec::new(alloc),
+            primaries: Vec::new(alloc),
         }
     }
 
@@ -100,7 +105,8 @@ impl Directory {
     pub(crate) fn add(&mut self, address: NodeAddress) -> Result<Option<usize>, AllocError>
         ensures some { IfOk result (λ number. IfSome number (λ node. (node ≡ length self.old.nodes)
             × (self.new ≡ record self.old { nodes = self.old.nodes ++ address ∷ [] }))) }
-        ensures none { IfOk result (λ number. IfNone number (self.new ≡ self.old)) }
+        ensures none { IfOk result (λ number. IfNone number ((self.new ≡ self.old)
+            × (65534 ≤ length self.old.nodes))) }
         ensures err { OnErr result (self.new ≡ self.old) }
     {
         let number = self.addresses.len();
@@ -166,14 +172,21 @@ impl Directory {
         Ok(numbers)
     }
 
-    /// The numbers of those nodes of the last usable map that are known.
+    /// The numbers of those nodes of a group that are known, by the last usable map.
     ///
     /// # Errors
     ///
     /// If memory runs out.
-    pub(crate) fn known_nodes(&self, alloc: Global) -> Result<Vec<usize>, AllocError> {
+    pub(crate) fn known_nodes(
+        &self,
+        alloc: Global,
+        group: NodeGroup,
+    ) -> Result<Vec<usize>, AllocError>
+        ensures { IfOk result (λ known. All (IsKnownAmong (group_in group self.now.table) self.now.nodes) known.items) }
+    {
+        let addresses = self.table.group(alloc, group)?;
         let mut known = Vec::new(alloc);
-        for address in self.table.group(alloc, NodeGroup::AllNodes)? {
+        for address in &addresses {
             if let Some(number) = self.number(address) {
                 known.push(number)?;
             }
@@ -186,14 +199,42 @@ impl Directory {
     /// # Errors
     ///
     /// If memory runs out.
-    pub(crate) fn unknown_nodes(&self, alloc: Global) -> Result<Vec<NodeAddress>, AllocError> {
+    pub(crate) fn unknown_nodes(&self, alloc: Global) -> Result<Vec<NodeAddress>, AllocError>
+        ensures { IfOk result (λ unknown. All (IsInMap self.now.table) unknown.items) }
+    {
+        let addresses = self.table.group(alloc, NodeGroup::AllNodes)?;
         let mut unknown = Vec::new(alloc);
-        for address in self.table.group(alloc, NodeGroup::AllNodes)? {
+        for address in &addresses {
             if self.number(address).is_none() {
-                unknown.push(address.clone()?)?;
+                unknown.push((*address).clone()?)?;
             }
         }
         Ok(unknown)
+    }
+
+    /// Looks up the numbers of the primaries of the last usable map.
+    ///
+    /// # Errors
+    ///
+    /// If memory runs out. Nothing changes then.
+    pub(crate) fn look_up_primaries(&mut self, alloc: Global) -> Result<(), AllocError>
+        ensures { self.new ≡ self.old }
+    {
+        self.primaries = self.known_nodes(alloc, NodeGroup::AllMasters)?;
+        Ok(())
+    }
+
+    /// The numbers of the primaries of the last usable map, as far as they were looked up.
+    pub(crate) fn primaries(&self) -> &[usize] {
+        &self.primaries
+    }
+
+    /// The number of a primary of the last usable map, by its place among [`Directory::primaries`].
+    pub(crate) fn primary(&self, place: usize) -> Option<usize>
+        ensures { IfSome result (λ node. IsPrimary node self.now) }
+    {
+        let node = *self.primaries.get(place)?;
+        Some(node)
     }
 
     /// Learns a `MOVED`: this node serves the slot. No other slot changes.
@@ -237,6 +278,7 @@ impl Directory {
             return Ok(false);
         }
         self.by_slot.clear();
+        self.primaries.clear();
         Ok(true)
     }
 }

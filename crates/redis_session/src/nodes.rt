@@ -34,6 +34,8 @@ struct Node {
     link: NodeLink,
     /// The number of the last map that had it.
     last_map: u64,
+    /// Its place among the primaries of the last map, if it is one.
+    primary: Option<usize>,
 }
 
 /// How the nodes stand that a session knows, and its links. Each function takes constant time, but
@@ -49,6 +51,12 @@ pub(crate) struct Nodes {
     busy: NumberQueue,
     /// The nodes whose link is ready. The first one is asked for the map next.
     ready: NumberQueue,
+    /// Those of them that are primaries of the last map.
+    ready_primaries: NumberQueue,
+    /// The place of the primary that gets a link if a part without a slot is to be asked, and no primary's link is ready.
+    primary_turn: usize,
+    /// How many primaries the last map has.
+    primary_count: usize,
     /// What is known of each link.
     links: Vec<LinkRecord>,
     /// The links that are to be closed.
@@ -74,6 +82,9 @@ impl Nodes {
             wanted: NumberQueue::new(alloc),
             busy: NumberQueue::new(alloc),
             ready: NumberQueue::new(alloc),
+            ready_primaries: NumberQueue::new(alloc),
+            primary_turn: 0,
+            primary_count: 0,
             links: Vec::new(alloc),
             closing: NumberQueue::new(alloc),
             fresh: NumberQueue::new(alloc),
@@ -98,6 +109,7 @@ impl Nodes {
         self.wanted.make_room(number)?;
         self.busy.make_room(number)?;
         self.ready.make_room(number)?;
+        self.ready_primaries.make_room(number)?;
         self.nodes.reserve(1)?;
         Ok(())
     }
@@ -107,13 +119,46 @@ impl Nodes {
         let _ = self.nodes.push(Node {
             link: NodeLink::Missing,
             last_map: 0,
+            primary: None,
         });
     }
 
-    /// Notes that a map was learned, which has these nodes.
-    pub(crate) fn note_map(&mut self, nodes: &[usize]) {
+    /// Notes that a map was learned, which has these nodes, and these primaries among them.
+    pub(crate) fn note_map(&mut self, nodes: &[usize], primaries: &[usize]) {
         self.map_count = self.map_count.saturating_add(1);
         self.note_in_map(nodes);
+        self.forget_primaries();
+        self.note_primaries(primaries);
+    }
+
+    /// Forgets which nodes are primaries.
+    fn forget_primaries(&mut self) {
+        for number in 0..self.nodes.len() {
+            self.ready_primaries.remove(number);
+            self.nodes[number].primary = None;
+        }
+    }
+
+    /// Notes the primaries of the last map.
+    fn note_primaries(&mut self, primaries: &[usize]) {
+        self.primary_count = primaries.len();
+        if self.primary_turn >= self.primary_count {
+            self.primary_turn = 0;
+        }
+        for place in 0..primaries.len() {
+            self.note_primary(primaries[place], place);
+        }
+    }
+
+    /// Notes that a node has this place among the primaries of the last map.
+    fn note_primary(&mut self, node: usize, place: usize) {
+        let Some(at) = self.nodes.get_mut(node) else {
+            return;
+        };
+        at.primary = Some(place);
+        if let NodeLink::Ready(_) = at.link {
+            self.ready_primaries.push_back(node);
+        }
     }
 
     /// Notes that the last map has these nodes.
@@ -186,14 +231,19 @@ impl Nodes {
             return;
         };
         at.link = link;
+        let is_primary = at.primary.is_some();
         self.wanted.remove(node);
         self.ready.remove(node);
+        self.ready_primaries.remove(node);
         match link {
             NodeLink::Missing => self.leave(node),
             NodeLink::Opening(_) => self.busy.push_back(node),
             NodeLink::Ready(_) => {
                 self.busy.push_back(node);
                 self.ready.push_back(node);
+                if is_primary {
+                    self.ready_primaries.push_back(node);
+                }
             }
         }
     }
@@ -204,6 +254,32 @@ impl Nodes {
         if node == self.last_turn {
             self.is_turn_over = true;
         }
+        if self.is_turn_of(node) {
+            self.end_primary_turn();
+        }
+    }
+
+    /// Notes that it is the turn of the next primary.
+    fn end_primary_turn(&mut self) {
+        self.primary_turn = self.primary_turn.saturating_add(1);
+        if self.primary_turn >= self.primary_count {
+            self.primary_turn = 0;
+        }
+    }
+
+    /// Whether a node is a primary of the last map.
+    pub(crate) fn is_primary(&self, node: usize) -> bool {
+        self.primary_place(node).is_some()
+    }
+
+    /// Whether a node is the primary that gets a link if no primary's link is ready.
+    pub(crate) fn is_turn_of(&self, node: usize) -> bool {
+        self.primary_place(node) == Some(self.primary_turn)
+    }
+
+    /// The place of a node among the primaries of the last map, if it is one.
+    fn primary_place(&self, node: usize) -> Option<usize> {
+        self.nodes.get(node)?.primary
     }
 
     /// Notes that a link to a node is to be closed. The node has no link then.
@@ -317,13 +393,13 @@ impl Nodes {
         Some(node)
     }
 
-    /// A node that parts without a slot are asked at: one whose link is ready, or else one that needs a link.
-    pub(crate) fn any(&mut self) -> Option<usize> {
-        if let Some(node) = self.ready.first() {
-            return Some(node);
+    /// The place of a primary of the last map at which parts without a slot are asked: one whose link is ready, or else
+    /// the one whose turn it is to get a link.
+    pub(crate) fn serving_primary(&self) -> Option<usize> {
+        match self.ready_primaries.first() {
+            Some(node) => self.primary_place(node),
+            None => Some(self.primary_turn),
         }
-        self.want_next();
-        self.busy.first()
     }
 
     /// Whether the link to some node is ready.

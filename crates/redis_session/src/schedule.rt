@@ -5,8 +5,10 @@ mod callers;
 mod deadlines;
 mod due;
 mod lists;
+mod parts;
 
-use crate::schedule::callers::Callers;
+use crate::schedule::callers::{Callers, NOWHERE};
+use crate::schedule::parts::{NO_PARTS, PartList, PartRecord, Parts};
 use session_core::Seat;
 use std::alloc::{AllocError, Global};
 use std::collections::{BTreeSet, VecDeque};
@@ -20,6 +22,8 @@ pub(crate) enum Room {
     Ready,
     /// A link to the node of this number.
     Node(usize),
+    /// A link to any primary.
+    AnyPrimary,
     /// A node for its slot.
     Unserved,
     /// The end of its pause.
@@ -37,24 +41,8 @@ pub(crate) enum Target {
     Asking,
 }
 
-/// Parts that wait for one thing, in the order in which they came.
-#[derive(Clone, Copy, Debug)]
-pub(crate) struct SeatList {
-    first: Option<Seat>,
-    last: Option<Seat>,
-}
-
-/// A part, as the schedule has it.
-#[derive(Debug, Drop)]
-pub(crate) struct PartRecord {
-    target: Target,
-    room: Room,
-    previous: Option<Seat>,
-    next: Option<Seat>,
-    pause_end: u64,
-    /// How many redirects it got.
-    redirect_count: u32,
-}
+/// Stands for the number of a call where there is none.
+const NO_CALL: u64 = u64::MAX;
 
 /// A call that is to be added.
 #[derive(Debug, Drop)]
@@ -84,25 +72,20 @@ pub(crate) struct CallRecord {
     /// The place of its caller.
     place: usize,
     deadline: u64,
-    deadline_room: DeadlineRoom,
     /// The calls before and after it in the list of rising deadlines.
-    before: Option<u64>,
-    after: Option<u64>,
+    before: u64,
+    after: u64,
+    next_of_caller: u64,
+    /// How many bytes its request has.
+    bytes: usize,
+    /// The number of its first part.
+    first_part: u64,
+    part_count: usize,
+    deadline_room: DeadlineRoom,
     is_late: bool,
     /// Whether it left. Its caller may have no place any more.
     has_left: bool,
-    /// How many bytes its request has.
-    bytes: usize,
-    /// How many parts were added before it.
-    parts_before: u64,
-    part_count: usize,
-    next_of_caller: Option<u64>,
 }
-
-const NO_SEATS: SeatList = SeatList {
-    first: None,
-    last: None,
-};
 
 /// What each part waits for, and which calls are due.
 #[derive(Drop)]
@@ -110,40 +93,25 @@ pub(crate) struct Schedule {
     /// The number of the first call that is kept.
     first: u64,
     calls: VecDeque<CallRecord>,
-    /// How many parts were added and forgotten.
-    parts_gone: u64,
-    /// The parts of the calls, in their order.
-    parts: VecDeque<PartRecord>,
+    parts: Parts,
     callers: Callers,
     /// The parts that wait for a link to each node.
-    nodes: Vec<SeatList>,
-    ready: SeatList,
-    unserved: SeatList,
-    paused: SeatList,
+    nodes: Vec<PartList>,
+    /// The parts that wait for a link to any primary.
+    any_primary: PartList,
+    ready: PartList,
+    unserved: PartList,
+    paused: PartList,
     /// The calls that are owed a reply, by rising deadlines, in a list through their records.
-    first_rising: Option<u64>,
-    last_rising: Option<u64>,
+    first_rising: u64,
+    last_rising: u64,
     /// The deadlines of the other calls that are owed a reply, with their numbers.
     other_deadlines: BTreeSet<(u64, u64)>,
     /// The places of the callers whose next reply may be there, in a list through their records.
-    first_due: Option<usize>,
-    last_due: Option<usize>,
+    first_due: usize,
+    last_due: usize,
     /// How many parts the calls have that began and did not leave.
     part_count: usize,
-}
-
-impl PartRecord {
-    /// A part that waits for nothing yet.
-    pub(crate) fn new() -> PartRecord {
-        PartRecord {
-            target: Target::Serving,
-            room: Room::Nowhere,
-            previous: None,
-            next: None,
-            pause_end: 0,
-            redirect_count: 0,
-        }
-    }
 }
 
 impl Schedule {
@@ -152,18 +120,18 @@ impl Schedule {
         Schedule {
             first: 0,
             calls: VecDeque::new(alloc),
-            parts_gone: 0,
-            parts: VecDeque::new(alloc),
+            parts: Parts::new(alloc),
             callers: Callers::new(alloc),
             nodes: Vec::new(alloc),
-            ready: NO_SEATS,
-            unserved: NO_SEATS,
-            paused: NO_SEATS,
-            first_rising: None,
-            last_rising: None,
+            any_primary: NO_PARTS,
+            ready: NO_PARTS,
+            unserved: NO_PARTS,
+            paused: NO_PARTS,
+            first_rising: NO_CALL,
+            last_rising: NO_CALL,
             other_deadlines: BTreeSet::new(alloc),
-            first_due: None,
-            last_due: None,
+            first_due: NOWHERE,
+            last_due: NOWHERE,
             part_count: 0,
         }
     }
@@ -190,7 +158,7 @@ impl Schedule {
     /// If memory runs out. Nothing changes then.
     pub(crate) fn make_room(&mut self, node: usize) -> Result<(), AllocError> {
         if self.nodes.len() <= node {
-            self.nodes.resize(node.saturating_add(1), NO_SEATS)?;
+            self.nodes.resize(node.saturating_add(1), NO_PARTS)?;
         }
         Ok(())
     }
@@ -212,29 +180,15 @@ impl Schedule {
     /// Adds the next call of the caller at a place.
     fn push_call(&mut self, new: NewCall, place: usize) -> Result<(), AllocError> {
         let call = self.next_call();
-        let count = self.parts.len();
-        if self.push_parts(new.part_count).is_err() {
-            self.parts.truncate(count);
+        let first_part = self.parts.end();
+        let part_count = new.part_count;
+        self.parts.add(call, part_count)?;
+        if self
+            .push_record(call, CallRecord::new(new, place, first_part))
+            .is_err()
+        {
+            self.parts.take_back(part_count);
             return Err(AllocError);
-        }
-        let before = self.parts_gone.saturating_add(count as u64);
-        let record = CallRecord::new(new, place, before);
-        if self.calls.push_back(record).is_err() {
-            self.parts.truncate(count);
-            return Err(AllocError);
-        }
-        if self.add_deadline(call).is_err() {
-            self.calls.pop_back();
-            self.parts.truncate(count);
-            return Err(AllocError);
-        }
-        Ok(())
-    }
-
-    /// Adds parts. If memory runs out, some of them may have been added.
-    fn push_parts(&mut self, count: usize) -> Result<(), AllocError> {
-        for _ in 0..count {
-            self.parts.push_back(PartRecord::new())?;
         }
         Ok(())
     }
@@ -253,8 +207,7 @@ impl Schedule {
         let Some(record) = self.calls.pop_back() else {
             return;
         };
-        let count = self.parts.len().saturating_sub(record.part_count);
-        self.parts.truncate(count);
+        self.parts.take_back(record.part_count);
         self.callers.forget_idle(record.place);
     }
 
@@ -267,10 +220,11 @@ impl Schedule {
             return;
         };
         let (place, count) = (record.place, record.part_count);
+        let first = record.first_part;
         self.part_count = self.part_count.saturating_add(count);
         self.note_last(place, call);
-        for part in 0..count {
-            self.push_back(Seat { call, part }, Room::Ready);
+        for number in first..first.saturating_add(count as u64) {
+            self.parts.push_back(&mut self.ready, Room::Ready, number);
         }
     }
 
@@ -287,7 +241,7 @@ impl Schedule {
             return;
         }
         if let Some(record) = self.call_mut(before) {
-            record.next_of_caller = Some(call);
+            record.next_of_caller = call;
         }
     }
 
@@ -313,22 +267,21 @@ impl Schedule {
         self.calls.get_mut(index as usize)
     }
 
-    /// Where a part stands among those of all calls, if its call is kept.
-    fn part_index(&self, seat: Seat) -> Option<usize> {
+    /// The number of a part, if its call is kept.
+    fn number_of(&self, seat: Seat) -> Option<u64> {
         let record = self.call(seat.call)?;
         if seat.part >= record.part_count {
             return None;
         }
-        let before = record.parts_before.checked_sub(self.parts_gone)?;
-        (before as usize).checked_add(seat.part)
+        record.first_part.checked_add(seat.part as u64)
     }
 
     fn part(&self, seat: Seat) -> Option<&PartRecord> {
-        self.parts.get(self.part_index(seat)?)
+        self.parts.get(self.number_of(seat)?)
     }
 
     fn part_mut(&mut self, seat: Seat) -> Option<&mut PartRecord> {
-        let index = self.part_index(seat)?;
-        self.parts.get_mut(index)
+        let number = self.number_of(seat)?;
+        self.parts.get_mut(number)
     }
 }

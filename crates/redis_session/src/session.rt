@@ -1,7 +1,7 @@
 //! The session, as its shell calls it.
 #![tactic(auto, using(crate::proofs::Leads::leads_nowhere, crate::proofs::Leads::leads_by, crate::proofs::Leads::leads_on, crate::proofs::Leads::leads_if, crate::proofs::Leads::leads_ok, crate::proofs::Leads::knows_on, crate::proofs::Leads::ends_on))]
 
-ghost use Rattle.std.specs.Prelude.{◌≡◌, ◌≢◌, ◌<◌, ◌⊎◌, [], ℕ, true, false, length, Ok, Some, None, IfOk, IfErr, IfSome, IfNone, OnOk, OnErr, slice_get};
+ghost use Rattle.std.specs.Prelude.{◌≡◌, ◌≢◌, ◌<◌, ◌≤◌, ◌⊎◌, [], ℕ, true, false, length, Ok, Some, None, IfOk, IfErr, IfSome, IfNone, OnOk, OnErr, slice_get};
 
 mod asking;
 mod replying;
@@ -106,8 +106,9 @@ impl Session {
     pub fn add_node(&mut self, address: &NodeAddress) -> Result<Option<usize>, AllocError>
         ensures known { IfOk result (λ node. IfSome node (λ number.
             slice_get self.new.directory.nodes number ≡ Some address.now)) }
-        ensures none { IfOk result (λ node. IfNone node (self.new ≡ self.old)) }
-        ensures state { Knows self.old self.new }
+        ensures none { IfOk result (λ node. IfNone node ((self.new ≡ self.old)
+            × (65534 ≤ length self.old.directory.nodes))) }
+        ensures state { Knows (λ node. node ≡ address.now) self.old self.new }
         ensures err { OnErr result (self.new ≡ self.old) }
     {
         let number = self.number_of(address)?;
@@ -166,11 +167,15 @@ impl Session {
     pub fn unreachable(&mut self, node: usize)
         ensures { self.new ≡ self.old }
     {
+        let is_turn = self.nodes.is_turn_of(node);
         self.nodes.set_link(node, NodeLink::Missing);
         self.want_map();
         let end = self.pause_end();
         if self.map_time <= self.now {
             self.map_time = end;
+        }
+        if is_turn {
+            self.schedule.pause_any_primary(end);
         }
         for _ in 0..self.schedule.most_steps() {
             let Some(seat) = self.schedule.first_at(node) else {
@@ -281,7 +286,7 @@ impl Session {
     }
 
     /// Begins a call: a request of a caller, as the bytes of one command. If its reply is not there when it is
-    /// `deadline`, the caller is told so. Returns the number of the call.
+    /// `deadline`, the caller is told so. If it is `deadline` already, nothing is asked. Returns the number of the call.
     ///
     /// A command that goes to each primary, as `DBSIZE`, goes to those of the map at this call. Before the first map
     /// there are none: it waits to its deadline, and ends with `CLUSTERDOWN`.
@@ -303,6 +308,8 @@ impl Session {
         ensures why { IfErr result (IsRefused self.old request.now) }
     {
         let call = self.begin_call(alloc, caller, request, deadline)?;
+        // Its time may be over.
+        self.end_late(alloc);
         // What finds no memory now is asked in a later step.
         let _ = self.step(alloc);
         Ok(call)
@@ -401,8 +408,9 @@ impl Session {
     pub(crate) fn step(&mut self, alloc: Global) -> Result<(), AllocError>
         ensures { Leads self.old self.new }
     {
-        self.ask_ready(alloc)?;
-        self.ask_map(alloc)
+        let asked = self.ask_ready(alloc);
+        self.ask_map(alloc)?;
+        asked
     }
 
     /// When a pause ends that begins now.
@@ -432,8 +440,9 @@ impl Session {
     pub(crate) fn number_of(&mut self, address: &NodeAddress) -> Result<Option<usize>, AllocError>
         ensures known { IfOk result (λ node. IfSome node (λ number.
             slice_get self.new.directory.nodes number ≡ Some address.now)) }
-        ensures none { IfOk result (λ node. IfNone node (self.new ≡ self.old)) }
-        ensures state { Knows self.old self.new }
+        ensures none { IfOk result (λ node. IfNone node ((self.new ≡ self.old)
+            × (65534 ≤ length self.old.directory.nodes))) }
+        ensures state { Knows (λ node. node ≡ address.now) self.old self.new }
         ensures err { OnErr result (self.new ≡ self.old) }
     {
         if let Some(number) = self.directory.number(address) {

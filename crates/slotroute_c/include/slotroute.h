@@ -351,7 +351,7 @@ typedef struct slotroute_due_reply {
 
 /* Names the next reply in reply. slotroute_session_reply has its bytes up to the next call of this
  * function. A caller's replies come in the order of its calls. SLOTROUTE_NOT_THERE: no reply is there.
- * SLOTROUTE_NO_MEMORY: the same reply comes next. */
+ * SLOTROUTE_NO_MEMORY: the replies that are there come in later calls. */
 uint32_t slotroute_session_next_reply(slotroute_session *session,
                                       slotroute_due_reply *reply);
 

@@ -1,4 +1,4 @@
-ghost use Rattle.std.specs.Prelude.{◌≡◌, ◌≢◌, ◌∷◌, [], None, Some, IsTrue, length, slice_get};
+ghost use Rattle.std.specs.Prelude.{◌≡◌, ◌≢◌, ◌≤◌, ◌∷◌, [], None, Some, IsTrue, length, slice_get};
 ghost use Rattle.std.specs.Str.{IsUtf8};
 ghost use Rattle.redis_session.specs.Leads.{Knows};
 ghost use Rattle.slotroute_c.specs.Buffers.{IsWritten};
@@ -37,10 +37,11 @@ pub extern "C" fn slotroute_session_add_node(
     node: &mut usize,
 ) -> u32
     // Links and calls stay.
-    ensures knows { Knows session.old.value session.new.value }
+    ensures knows { Knows (λ known. known ≡ record { host = host.now; port = port }) session.old.value session.new.value }
     ensures known { result ≡ code Outcome.Done
         → slice_get session.new.value.directory.nodes node.new ≡ Some (record { host = host.now; port = port }) }
     ensures unchanged { result ≢ code Outcome.Done → session.new.value ≡ session.old.value }
+    ensures taken { result ≡ code Outcome.NotThere → 65534 ≤ length session.old.value.directory.nodes }
     ensures utf8 { ¬ (IsUtf8 host.now) → result ≡ code Outcome.NotText }
     ensures unwritten { result ≢ code Outcome.Done → node.new ≡ node.old }
     ensures no_other { IsTrue (is_one_of result (Outcome.Done ∷ Outcome.NoMemory ∷ Outcome.NotText

@@ -29,7 +29,8 @@ pub struct SessionReply {
 ///
 /// # Errors
 ///
-/// `NotThere` if no reply is there. `NoMemory` if memory runs out: the same reply comes next.
+/// `NotThere` if no reply is there. `NoMemory` if memory runs out: the replies that are there
+/// come in later calls.
 #[unsafe(no_mangle)]
 pub extern "C" fn slotroute_session_next_reply(
     alloc: Global,

@@ -1,28 +1,29 @@
 //! The callers that have calls or are due.
 
-use super::{NO_SEATS, SeatList};
+use super::parts::{NO_PARTS, PartList};
 use std::alloc::{AllocError, Global};
 use std::collections::BTreeMap;
 
 /// The places of callers below this number stand in a list.
 const NEAR: u64 = 16384;
 
-/// Where a caller of the list stands that has no place.
-const NOWHERE: usize = usize::MAX;
+/// Stands for a place where there is none.
+pub(super) const NOWHERE: usize = usize::MAX;
 
 /// A caller, as the schedule has it.
 #[derive(Debug, Drop)]
 pub(crate) struct CallerRecord {
     pub(crate) number: u64,
     /// Its parts that wait for earlier calls.
-    pub(crate) barred: SeatList,
-    /// Whether a call of it is kept, and if so the first and the last one.
-    pub(crate) has_calls: bool,
+    pub(crate) barred: PartList,
+    /// If a call of it is kept, the first and the last one.
     pub(crate) first: u64,
     pub(crate) last: u64,
-    pub(crate) is_due: bool,
     /// The place of the next due caller, or that of the next free place.
-    pub(crate) next: Option<usize>,
+    pub(crate) next: usize,
+    /// Whether a call of it is kept.
+    pub(crate) has_calls: bool,
+    pub(crate) is_due: bool,
 }
 
 /// The callers, by places that stay while they have calls or are due. A place is found by a number in constant time if
@@ -30,7 +31,7 @@ pub(crate) struct CallerRecord {
 #[derive(Drop)]
 pub(crate) struct Callers {
     records: Vec<CallerRecord>,
-    first_free: Option<usize>,
+    first_free: usize,
     /// The place of each caller of a small number.
     near: Vec<usize>,
     /// The places of the other callers.
@@ -42,7 +43,7 @@ impl Callers {
     pub(crate) fn new(alloc: Global) -> Callers {
         Callers {
             records: Vec::new(alloc),
-            first_free: None,
+            first_free: NOWHERE,
             near: Vec::new(alloc),
             far: BTreeMap::new(alloc),
         }
@@ -87,7 +88,7 @@ impl Callers {
             return;
         }
         record.next = self.first_free;
-        self.first_free = Some(place);
+        self.first_free = place;
         let number = record.number;
         self.drop_place(number);
     }
@@ -102,13 +103,12 @@ impl Callers {
 
     /// The first free place. If there is none, one is added.
     fn free_place(&mut self) -> Result<usize, AllocError> {
-        if let Some(place) = self.first_free {
-            return Ok(place);
+        if self.first_free == NOWHERE {
+            let place = self.records.len();
+            self.records.push(CallerRecord::new(0))?;
+            self.first_free = place;
         }
-        let place = self.records.len();
-        self.records.push(CallerRecord::new(0))?;
-        self.first_free = Some(place);
-        Ok(place)
+        Ok(self.first_free)
     }
 
     fn set_place(&mut self, number: u64, place: usize) -> Result<(), AllocError> {
@@ -138,10 +138,7 @@ impl Callers {
 
     /// Puts a caller at the first free place.
     fn take_free(&mut self, number: u64) {
-        let Some(place) = self.first_free else {
-            return;
-        };
-        let Some(record) = self.records.get_mut(place) else {
+        let Some(record) = self.records.get_mut(self.first_free) else {
             return;
         };
         self.first_free = record.next;
@@ -154,12 +151,12 @@ impl CallerRecord {
     fn new(number: u64) -> CallerRecord {
         CallerRecord {
             number,
-            barred: NO_SEATS,
-            has_calls: false,
+            barred: NO_PARTS,
             first: 0,
             last: 0,
+            next: NOWHERE,
+            has_calls: false,
             is_due: false,
-            next: None,
         }
     }
 }

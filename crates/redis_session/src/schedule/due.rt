@@ -1,23 +1,24 @@
 //! Which calls are due: those whose time is over, and those whose reply may be next.
 
-use super::{CallRecord, DeadlineRoom, NewCall, Schedule};
+use super::callers::NOWHERE;
+use super::{CallRecord, DeadlineRoom, NO_CALL, NewCall, Schedule};
 
 impl CallRecord {
     /// A call that has just come.
-    pub(crate) fn new(new: NewCall, place: usize, parts_before: u64) -> CallRecord {
+    pub(crate) fn new(new: NewCall, place: usize, first_part: u64) -> CallRecord {
         CallRecord {
             caller: new.caller,
             place,
             deadline: new.deadline,
+            before: NO_CALL,
+            after: NO_CALL,
+            next_of_caller: NO_CALL,
+            bytes: new.bytes,
+            first_part,
+            part_count: new.part_count,
             deadline_room: DeadlineRoom::Nowhere,
-            before: None,
-            after: None,
             is_late: false,
             has_left: false,
-            bytes: new.bytes,
-            parts_before,
-            part_count: new.part_count,
-            next_of_caller: None,
         }
     }
 
@@ -81,43 +82,43 @@ impl Schedule {
             return;
         }
         record.is_due = true;
-        record.next = None;
-        match self.last_due {
-            Some(last) => self.set_next_due(last, place),
-            None => self.first_due = Some(place),
+        record.next = NOWHERE;
+        match self.callers.get_mut(self.last_due) {
+            Some(last) => last.next = place,
+            None => self.first_due = place,
         }
-        self.last_due = Some(place);
-    }
-
-    fn set_next_due(&mut self, place: usize, next: usize) {
-        if let Some(record) = self.callers.get_mut(place) {
-            record.next = Some(next);
-        }
+        self.last_due = place;
     }
 
     /// The first caller whose next reply may be there.
     pub(crate) fn first_due(&self) -> Option<u64> {
-        Some(self.callers.get(self.first_due?)?.number)
+        Some(self.callers.get(self.first_due)?.number)
     }
 
     /// Notes that the first due caller has no reply to get now. If no call of it is kept, it is forgotten.
     pub(crate) fn drop_due(&mut self) {
-        let Some(place) = self.first_due else {
-            return;
-        };
-        let next = self.unmark_due(place);
-        self.first_due = next;
-        if next.is_none() {
-            self.last_due = None;
+        if let Some(place) = self.pop_due() {
+            self.callers.forget_idle(place);
         }
-        self.callers.forget_idle(place);
     }
 
-    /// Unmarks a due caller. Returns the next one in the list.
-    fn unmark_due(&mut self, place: usize) -> Option<usize> {
+    /// Puts the first due caller behind the other ones.
+    pub(crate) fn turn_due(&mut self) {
+        if let Some(place) = self.pop_due() {
+            self.note_due(place);
+        }
+    }
+
+    /// Takes the first due caller out of the list. Returns its place.
+    fn pop_due(&mut self) -> Option<usize> {
+        let place = self.first_due;
         let record = self.callers.get_mut(place)?;
         record.is_due = false;
-        record.next
+        self.first_due = record.next;
+        if self.first_due == NOWHERE {
+            self.last_due = NOWHERE;
+        }
+        Some(place)
     }
 
     /// The first call that is kept of the caller at a place.
@@ -140,31 +141,25 @@ impl Schedule {
             return 0;
         };
         record.has_left = true;
-        let count = record.part_count;
-        let bytes = record.bytes;
+        let (bytes, count) = (record.bytes, record.part_count);
         let next = record.next_of_caller;
         self.part_count = self.part_count.saturating_sub(count);
-        match next {
-            Some(next) => self.set_first_call(place, next),
-            None => self.forget_calls(place),
-        }
+        self.set_first_call(place, next);
         bytes
     }
 
+    /// Sets the first call that is kept of the caller at a place. If there is none, the caller is forgotten, unless it
+    /// is among the due ones, of which it may be the first.
     fn set_first_call(&mut self, place: usize, call: u64) {
-        if let Some(record) = self.callers.get_mut(place) {
-            record.first = call;
-        }
-    }
-
-    /// Notes that no call is kept of the caller at a place. It is forgotten unless it is among the due ones, of which
-    /// it may be the first.
-    fn forget_calls(&mut self, place: usize) {
         let Some(record) = self.callers.get_mut(place) else {
             return;
         };
-        record.has_calls = false;
-        if self.first_due == Some(place) {
+        record.first = call;
+        record.has_calls = call != NO_CALL;
+        if record.has_calls {
+            return;
+        }
+        if self.first_due == place {
             self.drop_due();
             return;
         }
@@ -177,10 +172,6 @@ impl Schedule {
             return;
         };
         self.first = self.first.saturating_add(1);
-        for _ in 0..record.part_count {
-            if self.parts.pop_front().is_some() {
-                self.parts_gone = self.parts_gone.saturating_add(1);
-            }
-        }
+        self.parts.forget_first(record.part_count);
     }
 }

@@ -1,6 +1,7 @@
 //! The lists of parts.
 
-use super::{NO_SEATS, Room, Schedule, SeatList, Target};
+use super::parts::{NO_PART, NO_PARTS, PartList};
+use super::{Room, Schedule, Target};
 use session_core::Seat;
 
 impl Schedule {
@@ -29,92 +30,45 @@ impl Schedule {
         part.redirect_count
     }
 
-    /// Whether a part waits for nothing that is known.
-    fn is_nowhere(&self, seat: Seat) -> bool {
-        match self.part(seat) {
-            Some(part) => part.room == Room::Nowhere,
-            None => false,
-        }
-    }
-
     /// Puts a part that is nowhere at the end of a list.
     pub(crate) fn push_back(&mut self, seat: Seat, room: Room) {
-        if !self.is_nowhere(seat) {
+        let Some(number) = self.number_of(seat) else {
             return;
-        }
-        let list = self.list(seat, room);
-        self.enter(seat, room, list.last, None);
-        match list.last {
-            Some(last) => self.set_next(last, Some(seat)),
-            None => {}
-        }
-        let first = list.first.unwrap_or(seat);
-        self.set_list(
-            seat,
-            room,
-            SeatList {
-                first: Some(first),
-                last: Some(seat),
-            },
-        );
-    }
-
-    /// Puts a part that is nowhere at the front of a list.
-    pub(crate) fn push_front(&mut self, seat: Seat, room: Room) {
-        if !self.is_nowhere(seat) {
-            return;
-        }
-        let list = self.list(seat, room);
-        self.enter(seat, room, None, list.first);
-        match list.first {
-            Some(first) => self.set_previous(first, Some(seat)),
-            None => {}
-        }
-        let last = list.last.unwrap_or(seat);
-        self.set_list(
-            seat,
-            room,
-            SeatList {
-                first: Some(seat),
-                last: Some(last),
-            },
-        );
+        };
+        let mut list = self.list(seat, room);
+        self.parts.push_back(&mut list, room, number);
+        self.set_list(seat, room, list);
     }
 
     /// Takes a part out of the list that it is in.
     pub(crate) fn remove(&mut self, seat: Seat) {
-        let Some(part) = self.part(seat) else {
+        let Some(number) = self.number_of(seat) else {
             return;
         };
-        let (room, previous, next) = (part.room, part.previous, part.next);
-        let list = self.list(seat, room);
-        let first = match previous {
-            Some(before) => {
-                self.set_next(before, next);
-                list.first
-            }
-            None => next,
+        let Some(part) = self.parts.get(number) else {
+            return;
         };
-        let last = match next {
-            Some(after) => {
-                self.set_previous(after, previous);
-                list.last
-            }
-            None => previous,
-        };
-        self.set_list(seat, room, SeatList { first, last });
-        self.enter(seat, Room::Nowhere, None, None);
+        let room = part.room;
+        let mut list = self.list(seat, room);
+        self.parts.take_out(&mut list, number);
+        self.set_list(seat, room, list);
+    }
+
+    /// The part of this number, if it is kept.
+    fn seat_of(&self, number: u64) -> Option<Seat> {
+        Some(self.parts.get(number)?.seat)
     }
 
     /// Whether a part is to be asked in this step.
     pub(crate) fn has_ready(&self) -> bool {
-        self.ready.first.is_some()
+        self.ready.first != NO_PART
     }
 
     /// Takes the first part out of the list of those to be asked in this step.
     pub(crate) fn pop_ready(&mut self) -> Option<Seat> {
-        let seat = self.ready.first?;
-        self.remove(seat);
+        let number = self.ready.first;
+        let seat = self.seat_of(number)?;
+        self.parts.take_out(&mut self.ready, number);
         Some(seat)
     }
 
@@ -136,6 +90,28 @@ impl Schedule {
         }
     }
 
+    /// Has all parts asked in this step that wait for a link to any primary.
+    pub(crate) fn release_any_primary(&mut self) {
+        for _ in 0..self.most_steps() {
+            let Some(seat) = self.seat_of(self.any_primary.first) else {
+                return;
+            };
+            self.remove(seat);
+            self.push_back(seat, Room::Ready);
+        }
+    }
+
+    /// Lets all parts pause up to this time that wait for a link to any primary.
+    pub(crate) fn pause_any_primary(&mut self, end: u64) {
+        for _ in 0..self.most_steps() {
+            let Some(seat) = self.seat_of(self.any_primary.first) else {
+                return;
+            };
+            self.remove(seat);
+            self.pause(seat, end);
+        }
+    }
+
     /// Whether a part waits for a node of its slot.
     pub(crate) fn is_unserved(&self, seat: Seat) -> bool {
         match self.part(seat) {
@@ -146,13 +122,13 @@ impl Schedule {
 
     /// The first part that waits for a link to a node.
     pub(crate) fn first_at(&self, node: usize) -> Option<Seat> {
-        self.nodes.get(node)?.first
+        self.seat_of(self.nodes.get(node)?.first)
     }
 
     /// Has all parts asked in this step that wait for a node of their slot.
     pub(crate) fn release_unserved(&mut self) {
         for _ in 0..self.most_steps() {
-            let Some(seat) = self.unserved.first else {
+            let Some(seat) = self.seat_of(self.unserved.first) else {
                 return;
             };
             self.remove(seat);
@@ -170,22 +146,19 @@ impl Schedule {
 
     /// When the first pause ends, if a part pauses.
     pub(crate) fn first_pause_end(&self) -> Option<u64> {
-        let seat = self.paused.first?;
-        Some(self.part(seat)?.pause_end)
+        Some(self.parts.get(self.paused.first)?.pause_end)
     }
 
     /// Has all parts asked in this step whose pause is over.
     pub(crate) fn release_paused(&mut self, now: u64) {
         for _ in 0..self.most_steps() {
-            let Some(seat) = self.paused.first else {
-                return;
-            };
-            let Some(part) = self.part(seat) else {
+            let Some(part) = self.parts.get(self.paused.first) else {
                 return;
             };
             if part.pause_end > now {
                 return;
             }
+            let seat = part.seat;
             self.remove(seat);
             self.push_back(seat, Room::Ready);
         }
@@ -193,32 +166,33 @@ impl Schedule {
 
     /// The first part that waits for earlier calls of the caller at a place.
     pub(crate) fn first_barred(&self, place: usize) -> Option<Seat> {
-        self.callers.get(place)?.barred.first
+        self.seat_of(self.callers.get(place)?.barred.first)
     }
 
     /// The list of a room. For [`Room::Barred`] it is the one of the caller of this part.
-    fn list(&self, seat: Seat, room: Room) -> SeatList {
+    fn list(&self, seat: Seat, room: Room) -> PartList {
         match room {
-            Room::Nowhere => NO_SEATS,
+            Room::Nowhere => NO_PARTS,
             Room::Ready => self.ready,
-            Room::Node(node) => self.nodes.get(node).copied().unwrap_or(NO_SEATS),
+            Room::Node(node) => self.nodes.get(node).copied().unwrap_or(NO_PARTS),
+            Room::AnyPrimary => self.any_primary,
             Room::Unserved => self.unserved,
             Room::Pause => self.paused,
             Room::Barred => self.barred_of(seat),
         }
     }
 
-    fn barred_of(&self, seat: Seat) -> SeatList {
+    fn barred_of(&self, seat: Seat) -> PartList {
         let Some(call) = self.call(seat.call) else {
-            return NO_SEATS;
+            return NO_PARTS;
         };
         match self.callers.get(call.place) {
             Some(caller) => caller.barred,
-            None => NO_SEATS,
+            None => NO_PARTS,
         }
     }
 
-    fn set_list(&mut self, seat: Seat, room: Room, list: SeatList) {
+    fn set_list(&mut self, seat: Seat, room: Room, list: PartList) {
         match room {
             Room::Nowhere => {}
             Room::Ready => self.ready = list,
@@ -227,39 +201,20 @@ impl Schedule {
                     *at = list;
                 }
             }
+            Room::AnyPrimary => self.any_primary = list,
             Room::Unserved => self.unserved = list,
             Room::Pause => self.paused = list,
             Room::Barred => self.set_barred(seat, list),
         }
     }
 
-    fn set_barred(&mut self, seat: Seat, list: SeatList) {
+    fn set_barred(&mut self, seat: Seat, list: PartList) {
         let Some(call) = self.call(seat.call) else {
             return;
         };
         let place = call.place;
         if let Some(caller) = self.callers.get_mut(place) {
             caller.barred = list;
-        }
-    }
-
-    fn enter(&mut self, seat: Seat, room: Room, previous: Option<Seat>, next: Option<Seat>) {
-        if let Some(part) = self.part_mut(seat) {
-            part.room = room;
-            part.previous = previous;
-            part.next = next;
-        }
-    }
-
-    fn set_next(&mut self, seat: Seat, next: Option<Seat>) {
-        if let Some(part) = self.part_mut(seat) {
-            part.next = next;
-        }
-    }
-
-    fn set_previous(&mut self, seat: Seat, previous: Option<Seat>) {
-        if let Some(part) = self.part_mut(seat) {
-            part.previous = previous;
         }
     }
 }

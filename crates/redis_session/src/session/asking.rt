@@ -18,6 +18,9 @@ use session_core::{PartOrder, Seat, Standing};
 use session_machine::Part;
 use std::alloc::{AllocError, Global};
 
+/// How many parts may find no memory in a step before the others wait for a later one.
+const MOST_FAILURES: usize = 8;
+
 /// The request for the map.
 const CLUSTER_SLOTS: &[u8] = b"*2\r\n$7\r\nCLUSTER\r\n$5\r\nSLOTS\r\n";
 
@@ -36,7 +39,7 @@ impl Session {
     ghost use Rattle.session_core.specs.State.{IsLink};
     ghost use Rattle.redis_session.specs.Begins.{IsErrand};
     ghost use Rattle.redis_session.specs.Deadlines.{Forgets};
-    ghost use Rattle.redis_session.specs.Directory.{AreNumbersOf};
+    ghost use Rattle.redis_session.specs.Directory.{AreNumbersOf, IsPrimary};
     ghost use Rattle.redis_session.specs.Leads.{AddsCall, AsksLogin, BeginsLink, ChangesPeer, IsRefused, Leads, Serves};
     ghost use Rattle.redis_session.specs.Peers.{IsReadyTo};
     ghost use Rattle.redis_session.specs.Targets.{IsFor};
@@ -171,7 +174,7 @@ impl Session {
             IsErrandBy self.entry.now.directory self.entry.now.settings.retries request.now may_refuse (plans.One order) errand.rule errand.parts.items) }
     {
         let rule = ReplyRule::One;
-        let mut parts = Vec::new(alloc);
+        let mut parts = Vec::with_capacity(alloc, 1)?;
         parts.push(self.part(alloc, request, order, may_refuse)?)?;
         Ok(Errand { rule, parts })
     }
@@ -248,17 +251,29 @@ impl Session {
     }
 
     /// Asks the parts that are to be asked in this step.
+    ///
+    /// # Errors
+    ///
+    /// If memory runs out for some of them. Others may be asked. A later step asks the rest.
     pub(crate) fn ask_ready(&mut self, alloc: Global) -> Result<(), AllocError>
         ensures { Leads self.old self.new }
     {
+        let mut left = MOST_FAILURES;
         for _ in 0..self.schedule.most_steps() {
             let Some(seat) = self.schedule.pop_ready() else {
-                return Ok(());
+                break;
             };
-            if let Err(error) = self.place(alloc, seat) {
-                self.schedule.push_front(seat, Room::Ready);
-                return Err(error);
+            if self.place(alloc, seat).is_ok() {
+                continue;
             }
+            self.schedule.push_back(seat, Room::Ready);
+            left = left.saturating_sub(1);
+            if left == 0 {
+                break;
+            }
+        }
+        if left < MOST_FAILURES {
+            return Err(AllocError);
         }
         Ok(())
     }
@@ -270,7 +285,7 @@ impl Session {
         if !self.waits(seat) {
             return Ok(());
         }
-        if self.machine.is_held_back(seat.call, seat.part) {
+        if self.is_barred(seat) {
             self.schedule.push_back(seat, Room::Barred);
             return Ok(());
         }
@@ -280,6 +295,11 @@ impl Session {
             return Ok(());
         }
         self.place_at(seat)
+    }
+
+    /// Whether a part waits for earlier calls of its caller.
+    fn is_barred(&self, seat: Seat) -> bool {
+        !self.schedule.is_alone(seat.call) && self.machine.is_held_back(seat.call, seat.part)
     }
 
     /// Asks a part where it is to be asked, or has it wait for a node or for a link to it.
@@ -293,7 +313,8 @@ impl Session {
             return Ok(());
         };
         let NodeLink::Ready(link) = self.nodes.link(node) else {
-            self.schedule.push_back(seat, Room::Node(node));
+            let room = self.room_for_link(seat, target, node);
+            self.schedule.push_back(seat, room);
             self.nodes.want(node);
             return Ok(());
         };
@@ -302,6 +323,18 @@ impl Session {
             self.release_next(seat);
         }
         Ok(())
+    }
+
+    /// What a part waits for that is to be asked at a node whose link is not ready. If any primary serves it, it waits for
+    /// the first link to one of them.
+    fn room_for_link(&self, seat: Seat, target: Target, node: usize) -> Room {
+        let Target::Serving = target else {
+            return Room::Node(node);
+        };
+        if self.slot_of(seat).is_some() || self.rules.node_of(seat.call, seat.part).is_some() {
+            return Room::Node(node);
+        }
+        Room::AnyPrimary
     }
 
     /// Asks a part on a link to a node, if the link is ready and the order of its caller allows it now. Returns whether
@@ -399,7 +432,7 @@ impl Session {
         }
     }
 
-    /// A node that serves a part: the primary of its slot, the one of several nodes that it is for, or any.
+    /// A node that serves a part: the primary of its slot, the one of several nodes that it is for, or a primary.
     fn serving_node(&mut self, seat: Seat) -> Option<usize>
         ensures serves { IfSome result (Serves self.old seat.call seat.part) }
         ensures state { self.new ≡ self.old }
@@ -409,8 +442,15 @@ impl Session {
         }
         match self.rules.node_of(seat.call, seat.part) {
             Some(node) => node,
-            None => self.nodes.any(),
+            None => self.any_primary(),
         }
+    }
+
+    /// A primary of the map.
+    fn any_primary(&self) -> Option<usize>
+        ensures { IfSome result (λ node. IsPrimary node self.entry.now.directory) }
+    {
+        self.directory.primary(self.nodes.serving_primary()?)
     }
 
     /// Whether a part is for one of several nodes, which left the map.
@@ -455,13 +495,23 @@ impl Session {
         let is_ready = self.settings.needs_no_login();
         self.peers.join(link, Peer { node, is_ready })?;
         if is_ready {
-            self.nodes.set_link(node, NodeLink::Ready(link));
-            self.schedule.release_node(node);
+            self.note_ready(node, link);
             return Ok(());
         }
         self.ask_login(link)?;
         self.nodes.set_link(node, NodeLink::Opening(link));
         Ok(())
+    }
+
+    /// Notes that parts may be asked on a link to a node.
+    pub(crate) fn note_ready(&mut self, node: usize, link: usize)
+        ensures { self.new ≡ self.old }
+    {
+        self.nodes.set_link(node, NodeLink::Ready(link));
+        self.schedule.release_node(node);
+        if self.nodes.is_primary(node) {
+            self.schedule.release_any_primary();
+        }
     }
 
     /// Asks the login of a link.

@@ -17,6 +17,9 @@ use session_core::Cause;
 use session_machine::{Call, Part, Phase};
 use std::alloc::{AllocError, Global};
 
+/// How many replies may find no memory in a call before the others wait for a later one.
+const MOST_FAILURES: usize = 8;
+
 /// The reply that was given last.
 #[derive(Debug, Drop)]
 pub(crate) enum LastReply {
@@ -73,7 +76,7 @@ impl Session {
     ///
     /// # Errors
     ///
-    /// If memory runs out. The same reply comes next then.
+    /// If memory runs out for the replies that are there. They come in a later call then.
     #[tactic(auto, using(crate::proofs::Leads::gives_on, crate::proofs::Leads::leads_on, crate::proofs::Leads::leads_nowhere))]
     pub fn next_reply(&mut self, alloc: Global) -> Result<Option<(u64, u64)>, AllocError>
         ensures given { IfOk result (λ next. IfSome next (λ it. GivesReply it.0 it.1 self.old self.new)) }
@@ -83,14 +86,25 @@ impl Session {
     {
         self.is_reply_behind = false;
         self.forget_reply(alloc);
+        let mut left = MOST_FAILURES;
         for _ in 0..self.schedule.most_callers() {
             let Some(caller) = self.schedule.first_due() else {
-                return Ok(None);
+                break;
             };
-            if let Some(call) = self.give_next(alloc, caller)? {
-                return Ok(Some((caller, call)));
+            match self.give_next(alloc, caller) {
+                Ok(Some(call)) => return Ok(Some((caller, call))),
+                Ok(None) => self.schedule.drop_due(),
+                Err(_) => {
+                    self.schedule.turn_due();
+                    left = left.saturating_sub(1);
+                }
             }
-            self.schedule.drop_due();
+            if left == 0 {
+                break;
+            }
+        }
+        if self.is_reply_behind {
+            return Err(AllocError);
         }
         Ok(None)
     }

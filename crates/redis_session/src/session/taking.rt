@@ -16,6 +16,9 @@ use std::alloc::{AllocError, Global};
 /// How many redirects a part may get before it pauses after each.
 const MOST_REDIRECTS_AT_ONCE: u32 = 4;
 
+/// How many bytes the host of a redirect may have, as a name of the domain name system.
+const LONGEST_HOST: usize = 255;
+
 impl Session {
     ghost use Rattle.std.specs.Prelude.{◌≡◌, Some, false, IfNone, OnOk, OnErr};
     ghost use Rattle.session_core.specs.Part.{PartState};
@@ -29,7 +32,7 @@ impl Session {
     ghost use Rattle.session_core.specs.State.{On, Happens, IsLink, part_at};
     ghost use Rattle.session_machine.specs.declared.took.Took.TheVariants.{Kept};
     ghost use Rattle.session_core.specs.declared.part.Cause.TheVariants.{NoNode};
-    ghost use Rattle.redis_session.specs.Learned.{IsSentOn, Learns, LearnsKept, LearnsRedirect, LearnsReply, LearnsTold, NoPeers, SendsKept, SendsRedirect, SendsTold, Sets, host_at};
+    ghost use Rattle.redis_session.specs.Learned.{ForgetsAsk, IsInMap, IsSentOn, JoinsKept, JoinsRedirect, JoinsTold, Learns, LearnsKept, LearnsRedirect, LearnsReply, LearnsTold, NoPeers, SendsKept, SendsOrForgets, SendsTold, Sets, host_at};
     ghost use Rattle.redis_session.specs.Leads.{Does, Ends, Hails, IsConnected, Knows, Leads, LearnsThen, Notes, TakesAll, may_end};
 
     /// Takes the replies that came on a link, and notes whether it owes more. If no byte came now, its silence goes on.
@@ -101,8 +104,7 @@ impl Session {
             return;
         };
         self.peers.note_ready(link);
-        self.nodes.set_link(node, NodeLink::Ready(link));
-        self.schedule.release_node(node);
+        self.note_ready(node, link);
     }
 
     /// The node of a link.
@@ -143,6 +145,7 @@ impl Session {
             Ok(true) => {
                 self.schedule.release_unserved();
                 self.schedule.release_nodes();
+                self.schedule.release_any_primary();
                 self.note_nodes(alloc)
             }
             Ok(false) => {
@@ -175,7 +178,7 @@ impl Session {
 
     /// Notes which nodes the map has. Parts for other named nodes end when they are to be asked next.
     fn note_nodes(&mut self, alloc: Global) -> Result<(), AllocError>
-        ensures { Knows self.old self.new }
+        ensures { Knows (IsInMap self.old.directory.table) self.old self.new }
     {
         let noted = self.number_nodes(alloc);
         if noted.is_err() {
@@ -186,13 +189,15 @@ impl Session {
 
     /// Gives each node of the map a number, and notes that the map has it.
     fn number_nodes(&mut self, alloc: Global) -> Result<(), AllocError>
-        ensures { Knows self.old self.new }
+        ensures { Knows (IsInMap self.old.directory.table) self.old self.new }
     {
-        for address in self.directory.unknown_nodes(alloc)? {
-            self.number_of(&address)?;
+        let unknown = self.directory.unknown_nodes(alloc)?;
+        for address in &unknown {
+            self.number_of(address)?;
         }
-        let nodes = self.directory.known_nodes(alloc)?;
-        self.nodes.note_map(&nodes);
+        self.directory.look_up_primaries(alloc)?;
+        let nodes = self.directory.known_nodes(alloc, NodeGroup::AllNodes)?;
+        self.nodes.note_map(&nodes, self.directory.primaries());
         Ok(())
     }
 
@@ -228,7 +233,8 @@ impl Session {
         link: usize,
         seat: Seat,
     ) -> Result<Option<Target>, AllocError>
-        ensures { Learns (LearnsKept (host_at link self.old) seat self.old.machine) NoPeers
+        ensures { Learns (JoinsKept (host_at link self.old) seat self.old.machine)
+            (LearnsKept (host_at link self.old) seat self.old.machine) NoPeers
             (SendsKept (host_at link self.old) seat self.old.machine) self.old self.new }
     {
         let Some(part) = self.machine.part(seat.call, seat.part) else {
@@ -273,14 +279,26 @@ impl Session {
         seat: Seat,
         reply: &[u8],
     ) -> Result<(), AllocError>
-        ensures { LearnsThen (LearnsRedirect (host_at link self.old) seat.call seat.part reply.now self.old.machine) NoPeers
-            (SendsRedirect (host_at link self.old) seat.call seat.part reply.now self.old.machine) self.old self.new }
+        ensures { LearnsThen (JoinsRedirect (host_at link self.old) seat.call seat.part reply.now self.old.machine)
+            (LearnsRedirect (host_at link self.old) seat.call seat.part reply.now self.old.machine) NoPeers
+            (SendsOrForgets (host_at link self.old) seat.call seat.part reply.now self.old.machine) self.old self.new }
     {
         self.nodes.note_reply(link);
         self.want_map_if(wants_map(reply));
         let learned = self.learn_from(alloc, link, seat, reply);
+        self.forget_ask(seat, reply);
         self.end_if_late(seat);
         self.go_on(alloc, seat, reply, learned)
+    }
+
+    /// Forgets where an `ASK` sent a part, if this refusal of it is a `MOVED`.
+    fn forget_ask(&mut self, seat: Seat, refusal: &[u8])
+        ensures { ForgetsAsk seat.call seat.part refusal.now self.old self.new }
+    {
+        if refusal.starts_with(b"-MOVED ") {
+            self.schedule.forget_ask(seat);
+            self.asks.forget(seat);
+        }
     }
 
     /// Has a part asked again that was refused, if it still waits, where it was learned that it is to be asked.
@@ -305,6 +323,7 @@ impl Session {
             Ok(None) => self.wait_again(seat, refusal),
             Err(error) => {
                 self.schedule.push_back(seat, Room::Ready);
+                self.release_next(seat);
                 return Err(error);
             }
         }
@@ -360,7 +379,7 @@ impl Session {
         seat: Seat,
         told: Result<Option<(u16, Redirect)>, AllocError>,
     ) -> Result<Option<Target>, AllocError>
-        ensures { Learns (LearnsTold told) NoPeers (SendsTold seat told) self.old self.new }
+        ensures { Learns (JoinsTold told) (LearnsTold told) NoPeers (SendsTold seat told) self.old self.new }
     {
         let Some((slot, redirect)) = told? else {
             return Ok(None);
@@ -731,8 +750,17 @@ fn redirect_of(
         return Ok(None);
     }
     match redirect_in(alloc, refusal, host)? {
-        Some((told, redirect)) if told.number() == slot => Ok(Some((slot, redirect))),
+        Some((told, redirect)) if told.number() == slot && has_short_host(&redirect) => {
+            Ok(Some((slot, redirect)))
+        }
         _ => Ok(None),
+    }
+}
+
+/// Whether the host that a redirect names has at most [`LONGEST_HOST`] bytes.
+fn has_short_host(redirect: &Redirect) -> bool {
+    match redirect {
+        Redirect::Moved(address) | Redirect::Ask(address) => address.host().len() <= LONGEST_HOST,
     }
 }
 

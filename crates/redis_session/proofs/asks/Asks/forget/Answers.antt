@@ -1,7 +1,9 @@
-use Rattle.std.proofs.Common.{subst}
-use Rattle.redis_session.specs.Asks.{AreFewer, Asks}
-use Rattle.redis_session.proofs.SentParts.{are_fewer}
+use Rattle.std.proofs.Common.{None, subst}
+use Rattle.redis_session.specs.Asks.{Asks, SetsAsk}
+use Rattle.redis_session.proofs.SentParts.{sets_ask}
 use Rattle.redis_session.proofs.asks.Asks.forget.Goals as goal
 
 pub returns : goal.returns
-returns c = subst (λ (asks : Asks). AreFewer asks c.remove.new.self.entries) c.self.view_is (are_fewer c.args.seat.call c.args.seat.part c.self.inside.nodes c.remove.new.self c.remove.ensures.updates)
+returns c = let seat = c.args.seat in
+    subst (λ (asks : Asks). SetsAsk seat.call seat.part None asks c.remove.new.self.entries) c.self.view_is
+    (sets_ask seat.call seat.part None c.self.inside.nodes c.remove.new.self c.remove.ensures.updates)

@@ -1,5 +1,5 @@
 use Rattle.std.proofs.Common.{subst}
-use Rattle.redis_session.specs.Learned.{LearnsReply, Sets, host_at}
+use Rattle.redis_session.specs.Learned.{IsInMap, LearnsReply, Sets, host_at}
 use Rattle.redis_session.specs.Leads.{Knows}
 use Rattle.redis_session.specs.SessionStates.{SessionState}
 use Rattle.redis_session.specs.SessionView.{view_of}
@@ -11,4 +11,4 @@ returns-in-Ok-true c =
     let before = view_of c.self.inside in
     subst (λ (s : SessionState). Sets (LearnsReply c.args.count (host_at c.args.link s) c.args.reply.now) s c.note_nodes.new.self) c.self.view_is
     (sets_knows (LearnsReply c.args.count (host_at c.args.link before) c.args.reply.now) before c.fill_table.new.self c.note_nodes.new.self c.fill_table.ensures
-    (subst (λ (s : SessionState). Knows s c.note_nodes.new.self) c.self-in-Ok-true.view_is c.note_nodes.ensures))
+    (subst (λ (s : SessionState). Knows (IsInMap s.directory.table) s c.note_nodes.new.self) c.self-in-Ok-true.view_is c.note_nodes.ensures))

@@ -3,7 +3,7 @@ use Rattle.std.specs.Prelude.{IfSome}
 use Rattle.redis_session.specs.Directory.{IsNodeOf}
 use Rattle.redis_session.specs.Rules.{is_several, node_in, rule_in}
 use Rattle.redis_session.specs.SessionStates.{SessionState}
-use Rattle.redis_session.proofs.Serving.{any_serves, named_serves, slot_serves}
+use Rattle.redis_session.proofs.Serving.{named_serves, primary_serves, slot_serves}
 use Rattle.redis_session.proofs.session.Session.serving_node.Goals as goal
 
 pub returns-in-Some-clause-serves : goal.returns-in-Some-clause-serves
@@ -18,5 +18,6 @@ returns-in-Some-node_of-clause-serves c = let s = c.args.self.now in
 
 pub returns-in-None-clause-serves : goal.returns-in-None-clause-serves
 returns-in-None-clause-serves c = let s = c.args.self.now in
-    any_serves s c.args.seat.call c.args.seat.part c.any.result c.in_default.ensures.none
+    primary_serves s c.args.seat.call c.args.seat.part c.any_primary.result c.in_default.ensures.none
     (subst (λ (t : SessionState). is_several (rule_in t.rules c.args.seat.call) ≡ false) c.self.view_is c.in-None.ensures.none)
+    c.any_primary.ensures
