@@ -16,7 +16,7 @@ pub fn new_session(alloc: Global, login: Vec<u8>, added: AddedNames) -> Session 
         alloc,
         Settings {
             login,
-            most_reply_bytes: 1_000_000,
+            most_reply_bytes: 4_000,
             most_calls: 50,
             most_bytes: 3_000,
             silence: Some(60),
