@@ -315,6 +315,87 @@ static unsigned long run_refusing(unsigned long from, unsigned long count) {
     return made;
 }
 
+/* ---- two calls */
+
+static void write_all(size_t link) {
+    slotroute_session_wrote(&session, link, slotroute_session_unwritten(&session, link, NULL, 0));
+}
+
+static uint32_t read_text(size_t link, const char *text) {
+    return slotroute_session_read(&session, link, (const uint8_t *)text, strlen(text));
+}
+
+static size_t connect_next(void) {
+    size_t number, link;
+    if (slotroute_session_wanted_node(&session, &number) != SLOTROUTE_DONE) fail("no node is wanted", 0);
+    if (slotroute_session_connected(&session, number, &link) != SLOTROUTE_DONE) fail("no link is there", number);
+    return link;
+}
+
+/* Opens a session with a link to its one node. Gives the link. */
+static size_t open_link(void) {
+    static const slotroute_session_settings settings = {1000000, 1000, 1000000, 0, 10, 16};
+    size_t number;
+    if (slotroute_session_open(&settings, NULL, 0, &session) != SLOTROUTE_DONE) fail("no session", 0);
+    slotroute_session_add_node(&session, (const uint8_t *)"n1", 2, 1, &number);
+    size_t link = connect_next();
+    write_all(link);
+    read_text(link, "*1\r\n*3\r\n:0\r\n:16383\r\n*2\r\n$2\r\nn1\r\n:1\r\n");
+    return link;
+}
+
+static void begin_text(uint64_t caller, const char *request) {
+    uint64_t call;
+    if (slotroute_session_begin(&session, caller, (const uint8_t *)request, strlen(request), 1000, &call) != SLOTROUTE_DONE)
+        fail("a request is refused", caller);
+}
+
+/* The reply to caller 1 finds no memory once. The one to caller 2, which needs none, comes first then. */
+static void run_behind(void) {
+    slotroute_due_reply due = {0};
+    size_t link = open_link();
+    begin_text(1, "*3\r\n$4\r\nMGET\r\n$1\r\na\r\n$1\r\nb\r\n");
+    begin_text(2, "*2\r\n$3\r\nGET\r\n$1\r\nb\r\n");
+    write_all(link);
+    read_text(link, "*1\r\n$1\r\nx\r\n*1\r\n$1\r\ny\r\n$1\r\ny\r\n");
+    refuse_requests(1, 1);
+    if (slotroute_session_next_reply(&session, &due) != SLOTROUTE_DONE || due.caller != 2) fail("a reply holds up others", due.caller);
+    refuse_requests(0, 0);
+    if (slotroute_session_next_reply(&session, &due) != SLOTROUTE_DONE || due.caller != 1) fail("a reply is lost", due.caller);
+    slotroute_session_close(session);
+}
+
+/* Two calls of one caller on a slot are sent on to one node by ASK. This request for memory is refused while the
+   second ASK is read. Gives how many are made there. */
+static unsigned long run_pair(unsigned long from) {
+    static const char ask[] = "-ASK 15495 n3:1\r\n";
+    slotroute_due_reply due;
+    uint64_t time;
+    size_t number, first = open_link();
+    for (int i = 0; i < 2; i++) begin_text(7, "*3\r\n$3\r\nSET\r\n$1\r\na\r\n$1\r\n1\r\n");
+    write_all(first);
+    read_text(first, ask);
+    size_t second = connect_next();
+    refuse_requests(from, 1);
+    uint32_t answer = read_text(first, ask);
+    unsigned long made = count_requests();
+    refuse_requests(0, 0);
+    if (slotroute_session_link_to_close(&session, &number) == SLOTROUTE_DONE) slotroute_session_ended(&session, number);
+    else if (answer != SLOTROUTE_DONE) read_text(first, "");
+    for (int replies = 0; replies < 2;) {
+        size_t len = slotroute_session_unwritten(&session, second, NULL, 0);
+        write_all(second);
+        if (len > 0) read_text(second, len > 60 ? "+OK\r\n+OK\r\n+OK\r\n+OK\r\n" : "+OK\r\n+OK\r\n");
+        write_all(first);
+        for (; slotroute_session_next_reply(&session, &due) == SLOTROUTE_DONE; replies++) continue;
+        if (len > 0 || replies == 2) continue;
+        if (slotroute_session_next_time(&session, &time) != SLOTROUTE_DONE || time >= 1000) fail("two calls wait for ever", from);
+        slotroute_session_advance(&session, time);
+    }
+    slotroute_session_close(session);
+    return made;
+}
+
 int main(void) {
     static const unsigned long counts[] = {1, 4, 41};
     unsigned long runs = 0;
@@ -324,6 +405,8 @@ int main(void) {
     if (right + failed != CALLERS * FORMS - 1 || failed > 6) fail("with ample memory calls fail", failed);
     for (size_t i = 0; refuse_requests && i < sizeof counts / sizeof *counts; i++)
         for (unsigned long from = 1; run_refusing(from, counts[i]) >= from; from++) runs++;
+    for (unsigned long from = 1; refuse_requests && run_pair(from) >= from; from++) runs++;
+    if (refuse_requests) run_behind();
     printf("%u replies and %u errors with ample memory; %lu runs with memory refused\n", ample, lost, runs);
     return 0;
 }

@@ -1,7 +1,8 @@
 /* Makes the calls of a session that lines of standard input name, and prints what each returns, a line each.
  *
  * The lines are those of the topic `shell`, which crates/rows/stdin explains, without `faults`. Also, `to-write`
- * prints the link that slotroute_session_link_to_write names. A refusal is printed without an index.
+ * prints the link that slotroute_session_link_to_write names. A refusal is printed without an index. With
+ * tests/requests.c linked in, `refuse FROM COUNT` has requests for memory refused in the next call that may take some.
  * tests/session-scripts compares the runners of several languages.
  */
 #define _POSIX_C_SOURCE 200809L
@@ -12,10 +13,27 @@
 #include <string.h>
 
 /* Those of the program of crates/rows. */
-static const slotroute_session_settings settings = {1000000, 50, 3000, 60, 10, 16};
+static const slotroute_session_settings settings = {4000, 50, 3000, 60, 10, 16};
 static slotroute_session session;
 enum { LINKS = 1000 };
 static char is_open[LINKS];
+
+/* Of tests/requests.c, if that is linked in. */
+__attribute__((weak)) void refuse_requests(unsigned long from, unsigned long count);
+/* Which requests for memory are refused in the next call. */
+static unsigned long refused_from, refused_count;
+
+/* Comes before a call that may take memory. */
+static void begin_refusing(void) {
+    if (refuse_requests) refuse_requests(refused_from, refused_count);
+}
+
+/* Returns the answer of that call. */
+static uint32_t end_refusing(uint32_t answer) {
+    if (refuse_requests) refuse_requests(0, 0);
+    refused_count = 0;
+    return answer;
+}
 
 /* Takes a number and the space after it. */
 static uint64_t number(char **words) {
@@ -101,7 +119,9 @@ static void print_address(char *words) {
 
 static void connected(char *words) {
     size_t link = 0;
-    if (slotroute_session_connected(&session, number(&words), &link) == SLOTROUTE_DONE && link < LINKS) {
+    uint64_t node = number(&words);
+    begin_refusing();
+    if (end_refusing(slotroute_session_connected(&session, node, &link)) == SLOTROUTE_DONE && link < LINKS) {
         is_open[link] = 1;
         printf("%zu\n", link);
     } else {
@@ -135,13 +155,15 @@ static void wrote(char *words) {
 
 static void read_link(char *words) {
     size_t link = number(&words), len = bytes_of(words);
-    print_done(slotroute_session_read(&session, link, (uint8_t *)words, len));
+    begin_refusing();
+    print_done(end_refusing(slotroute_session_read(&session, link, (uint8_t *)words, len)));
 }
 
 /* Ends a link if it is open. An end of another one would have the map asked for. */
 static void ended(char *words) {
     size_t link = number(&words);
-    uint32_t answer = link < LINKS && is_open[link] ? slotroute_session_ended(&session, link) : SLOTROUTE_DONE;
+    begin_refusing();
+    uint32_t answer = end_refusing(link < LINKS && is_open[link] ? slotroute_session_ended(&session, link) : SLOTROUTE_DONE);
     if (link < LINKS) is_open[link] = 0;
     print_done(answer);
 }
@@ -170,14 +192,29 @@ static const char *refusal(uint32_t answer) {
 static void begin(char *words) {
     uint64_t caller = number(&words), deadline = number(&words), call = 0;
     size_t len = bytes_of(words);
-    uint32_t answer = slotroute_session_begin(&session, caller, (uint8_t *)words, len, deadline, &call);
+    begin_refusing();
+    uint32_t answer = end_refusing(slotroute_session_begin(&session, caller, (uint8_t *)words, len, deadline, &call));
     if (answer == SLOTROUTE_DONE) printf("%llu\n", (unsigned long long)call);
     else puts(refusal(answer));
 }
 
-static void give_up(char *words) { print_whether(slotroute_session_give_up(&session, number(&words))); }
+static void give_up(char *words) {
+    uint64_t call = number(&words);
+    begin_refusing();
+    print_whether(end_refusing(slotroute_session_give_up(&session, call)));
+}
 
-static void advance(char *words) { print_done(slotroute_session_advance(&session, number(&words))); }
+static void advance(char *words) {
+    uint64_t time = number(&words);
+    begin_refusing();
+    print_done(end_refusing(slotroute_session_advance(&session, time)));
+}
+
+static void refuse(char *words) {
+    refused_from = number(&words);
+    refused_count = number(&words);
+    puts(refuse_requests ? "OK" : "none");
+}
 
 static void next_time(char *words) {
     uint64_t time = 0;
@@ -190,8 +227,10 @@ static void next_reply(char *words) {
     slotroute_due_reply due;
     uint8_t *bytes;
     (void)words;
-    if (slotroute_session_next_reply(&session, &due) != SLOTROUTE_DONE) {
-        puts("none");
+    begin_refusing();
+    uint32_t answer = end_refusing(slotroute_session_next_reply(&session, &due));
+    if (answer != SLOTROUTE_DONE) {
+        puts(answer == SLOTROUTE_NO_MEMORY ? "NoMemory" : "none");
         return;
     }
     bytes = room_for(due.bytes);
@@ -207,7 +246,7 @@ static const struct {
              {"connected", connected}, {"unreachable", unreachable}, {"to-write", to_write},
              {"unwritten", unwritten}, {"wrote", wrote}, {"read", read_link}, {"ended", ended},
              {"close", to_close}, {"begin", begin}, {"give-up", give_up}, {"advance", advance},
-             {"time", next_time}, {"next", next_reply}};
+             {"time", next_time}, {"next", next_reply}, {"refuse", refuse}};
 
 int main(void) {
     char *line = NULL;

@@ -6,7 +6,7 @@ import sys
 
 from slotroute import Refused, Session
 
-SETTINGS = {"most_reply_bytes": 1000000, "most_calls": 50, "most_bytes": 3000, "silence": 60, "pause": 10, "retries": 16}
+SETTINGS = {"most_reply_bytes": 4000, "most_calls": 50, "most_bytes": 3000, "silence": 60, "pause": 10, "retries": 16}
 REFUSALS = {
     "REQUEST_INCOMPLETE": "Unread(Incomplete)", "REQUEST_MALFORMED": "Unread(Malformed)",
     "AFTER_REQUEST": "AfterRequest", "NO_FORM": "NoOneReply", "NOT_ROUTABLE": "NoRoute", "NOT_TAKEN": "NotTaken",

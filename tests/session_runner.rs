@@ -62,7 +62,7 @@ impl Runner {
     fn open(login: &str) -> Result<Self, Box<dyn Error>> {
         let settings = Settings {
             login: bytes_of(login)?,
-            most_reply_bytes: 1_000_000,
+            most_reply_bytes: 4_000,
             most_calls: 50,
             most_bytes: 3000,
             silence: NonZeroU64::new(60),
