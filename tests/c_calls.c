@@ -346,7 +346,7 @@ static int exact(void) {
     size_t ends[4], parts = 2, bytes = 58, whole = 4;
     uint8_t out[64];
     slotroute_told told = told_before();
-    if (slotroute_version() != 203 || strcmp(SLOTROUTE_VERSION, "0.2.3") != 0) return 9;
+    if (slotroute_version() != 204 || strcmp(SLOTROUTE_VERSION, "0.2.4") != 0) return 9;
     memset(slots, 0xA5, sizeof slots);
     memset(ends, 0xA5, sizeof ends);
     memset(out, 0xA5, sizeof out);

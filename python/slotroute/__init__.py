@@ -154,7 +154,7 @@ class Library:
         return text.raw[:length].decode()
 
     def version(self) -> int:
-        """The version of the library as a number: 203 for 0.2.3."""
+        """The version of the library as a number: 204 for 0.2.4."""
         return int(self.lib.slotroute_version())
 
     def slot(self, key: bytes) -> int:

@@ -50,7 +50,7 @@ fn message(code: u32) -> String {
     String::from_utf8_lossy(text.get(..len).unwrap_or_default()).into_owned()
 }
 
-/// The version of the library: 203 for 0.2.3.
+/// The version of the library: 204 for 0.2.4.
 pub fn version() -> u32 {
     // SAFETY: the call takes nothing.
     unsafe { ffi::slotroute_version() }
@@ -389,7 +389,7 @@ mod tests {
 
     #[test]
     fn keys_lengths_and_routes() {
-        assert_eq!((version(), slot(b"foo")), (203, 12182));
+        assert_eq!((version(), slot(b"foo")), (204, 12182));
         assert_eq!(request_len(b"*1\r\n$4\r\nPING\r\n+"), Ok(Some(14)));
         assert_eq!(reply_len(b"*2\r\n:1\r\n"), Ok(None));
         assert_eq!(reply_len(b"?").map_err(|refused| refused.code), Err(Code::ReplyMalformed));

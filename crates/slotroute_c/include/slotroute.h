@@ -29,7 +29,7 @@
 #include <stddef.h>
 #include <stdint.h>
 
-#define SLOTROUTE_VERSION "0.2.3"
+#define SLOTROUTE_VERSION "0.2.4"
 
 #ifdef __cplusplus
 extern "C" {
@@ -75,7 +75,7 @@ typedef struct slotroute_told {
 /* The length of the text of a code. The text is written if it fits, with no 0 at its end. */
 size_t slotroute_message(uint32_t answer, uint8_t *text, size_t text_len);
 
-/* The version of the library that is linked, as a number: 203 for 0.2.3, 10203 for 1.2.3. */
+/* The version of the library that is linked, as a number: 204 for 0.2.4, 10203 for 1.2.3. */
 uint32_t slotroute_version(void);
 
 /* The slot of a key, 0 to 16383. */
