@@ -1,5 +1,6 @@
 pub mod Scans
 pub mod LinkSteps
+pub mod LaneParts
 pub mod LoneParts
 pub mod Arrivals
 pub mod LinkRuns

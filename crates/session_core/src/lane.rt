@@ -4,26 +4,25 @@
 //! and the replies are `-ASK 15495 n3:1` and `+OK`. If `SET a 1` were asked again, `a` would end as 1.
 //! So the first part is *overtaken*, and is never asked again.
 
-ghost use Rattle.std.specs.Prelude.{◌≡◌, ◌+◌, ◌<◌, ◌≤◌, true, ℕ, OnOk, OnErr, IfSome, IfNone};
-ghost use Rattle.session_core.specs.declared.ordered_part.Status.{Status};
-ghost use Rattle.session_core.specs.declared.ordered_part.Status.TheVariants.{Waits, Asked};
-ghost use Rattle.session_core.specs.Inner.Lane.{In, no_lane, joined, with_status, MayJoin, MayBecome, IsFirst, IsNext, IsLinkOf};
+ghost use Rattle.std.specs.Prelude.{◌≡◌, ◌<◌, ◌≤◌, true, false, ℕ, OnOk, OnErr, IfSome, IfNone};
+ghost use Rattle.session_core.specs.Inner.Lane.{In, joined, with_status, MayJoin, MayBecome, IsNext, IsLinkOf};
+ghost use Rattle.session_core.specs.Inner.LaneForms.{part_lane};
 ghost use Rattle.session_core.specs.Inner.Tied.{IsEmpty};
 
+use crate::lane_part::{LaneAskable, LanePart};
+use crate::lane_queues::LaneQueues;
 use crate::ordered_part::Status;
-use crate::sorted_places::{move_before, put_place, take_first, take_place};
 use std::alloc::{AllocError, Global};
-use std::collections::VecDeque;
 use std::marker::Model;
 
-/// The part of a lane that may be asked now.
-#[derive(Debug, Clone, Copy)]
-pub(crate) struct LaneAskable {
-    /// Its place among all parts of the caller.
-    pub(crate) place: u64,
-    /// The only link that it may be asked on, since earlier parts are on their way there. If none is
-    /// on its way, it may be asked on any link.
-    pub(crate) link: Option<usize>,
+/// Mostly one part is open on a slot, and takes no memory. When another one joins it, both go to queues.
+/// Later parts do so, too, until none is open.
+#[derive(Drop)]
+enum LaneForm {
+    /// The only open part.
+    One(LanePart),
+    /// Any open parts.
+    Many(Box<LaneQueues>),
 }
 
 /// The open parts of one caller on one slot, by their places among all parts of the caller.
@@ -32,53 +31,26 @@ pub(crate) struct LaneAskable {
 /// way on the same link, and no later part is on its way or settled.
 #[derive(Drop)]
 pub(crate) struct Lane {
-    /// Parts that wait again: each was refused while another was on its way. When none is on its way, they move
-    /// to `later`. So a part that is refused moves no other part of `later`.
-    refused: VecDeque<u64>,
-    /// The other parts that wait. They come after those of `refused`, and after those on their way.
-    later: VecDeque<u64>,
-    /// The parts on their way.
-    asked: VecDeque<u64>,
-    /// The place after the last settled part, or 0.
-    settled_end: u64,
-    /// The link of all parts that are on their way.
-    link: usize,
+    form: LaneForm,
 }
 
 impl Model for Lane {
-    ghost use Rattle.std.specs.Prelude.{◌+◌, ◌≤◌, ◌++◌, length};
-    ghost use Rattle.std.specs.VecDeque.{deque_capacity};
     ghost use Rattle.session_core.specs.Inner.Lane as lane;
+    ghost use Rattle.session_core.specs.Inner.LaneForms.{lane_in};
 
     ghost Value = { lane.Lane };
 
-    ghost view = { λ s. record { waiting = s.refused.items ++ s.later.items; asked = s.asked.items; settled_end = s.settled_end; link = s.link } };
-
-    ghost invariant = { λ s. lane.AreInOrder s.refused.items s.later.items s.asked.items
-        × (length s.refused.items + length s.later.items + length s.asked.items ≤ deque_capacity s.refused + 1)
-        × (length s.refused.items + length s.later.items + length s.asked.items ≤ deque_capacity s.later)
-        × (length s.refused.items + length s.later.items + length s.asked.items ≤ deque_capacity s.asked) };
+    ghost view = { λ s. lane_in s.form };
 }
 
 impl Lane {
-    /// A lane without parts.
-    pub(crate) fn new(alloc: Global) -> Lane
-        ensures { result ≡ no_lane }
+    /// A lane that has this part alone. Takes no memory.
+    pub(crate) fn new(part: LanePart) -> Lane
+        ensures { result ≡ part_lane part }
     {
         Lane {
-            refused: VecDeque::new(alloc),
-            later: VecDeque::new(alloc),
-            asked: VecDeque::new(alloc),
-            settled_end: 0,
-            link: 0,
+            form: LaneForm::One(part),
         }
-    }
-
-    /// Whether no part waits, and none is on its way.
-    pub(crate) fn is_empty(&self) -> bool
-        ensures { result ≡ true → IsEmpty self.now }
-    {
-        self.asked.is_empty() && self.later.is_empty() && self.refused.is_empty()
     }
 
     /// Adds a part at the end, which waits. It may be asked and refused without more memory.
@@ -86,17 +58,20 @@ impl Lane {
     /// # Errors
     ///
     /// If memory runs out. Nothing changes then.
-    pub(crate) fn join(&mut self, place: u64) -> Result<(), AllocError>
+    pub(crate) fn join(&mut self, alloc: Global, place: u64) -> Result<(), AllocError>
         requires { MayJoin place self.old }
         ensures joined { OnOk result (self.new ≡ joined place self.old) }
         ensures err { OnErr result (self.new ≡ self.old) }
     {
-        let (refused, later, asked) = (self.refused.len(), self.later.len(), self.asked.len());
-        self.refused.reserve(later + asked)?;
-        self.later.reserve(refused + asked + 1)?;
-        self.asked.reserve(refused + later + 1)?;
-        self.later.push_back_reserved(place);
-        Ok(())
+        match &mut self.form {
+            LaneForm::One(part) => {
+                let mut queues = part.queues(alloc)?;
+                queues.join(place)?;
+                self.form = LaneForm::Many(Box::new(alloc, queues)?);
+                Ok(())
+            }
+            LaneForm::Many(queues) => queues.join(place),
+        }
     }
 
     /// The part that may be asked now. There is one at most.
@@ -108,83 +83,42 @@ impl Lane {
         ensures link { IfSome result (λ next. IsLinkOf next.link self.now) }
         ensures none { IfNone result ((place : ℕ) → IsNext place self.now → ⊥) }
     {
-        let place = self.first_waiting()?;
-        if place < self.settled_end {
-            return None;
-        }
-        match self.asked.back() {
-            Some(last) if place <= *last => None,
-            Some(_) => Some(LaneAskable {
-                place,
-                link: Some(self.link),
-            }),
-            None => Some(LaneAskable { place, link: None }),
+        match &self.form {
+            LaneForm::One(part) => part.askable(),
+            LaneForm::Many(queues) => queues.askable(),
         }
     }
 
-    /// The first part that is overtaken: it waits, and a later part is settled.
+    /// The first part that is overtaken: it waits, and a later part is settled. One part alone is not.
     pub(crate) fn overtaken(&self) -> Option<u64>
         ensures overtaken { IfSome result (λ place. In place self.now.waiting × (place < self.now.settled_end)) }
         ensures none { IfNone result ((place : ℕ) → In place self.now.waiting → self.now.settled_end ≤ place) }
     {
-        let place = self.first_waiting()?;
-        if self.settled_end <= place {
-            return None;
+        match &self.form {
+            LaneForm::One(_) => None,
+            LaneForm::Many(queues) => queues.overtaken(),
         }
-        Some(place)
     }
 
-    /// Gives the part at a place this status.
-    pub(crate) fn change(&mut self, place: u64, status: Status)
+    /// Gives the part at a place this status. Returns whether a part is open then. If none is, the lane has
+    /// to be let go.
+    pub(crate) fn change(&mut self, place: u64, status: Status) -> bool
         requires { MayBecome place status self.old }
-        ensures { self.new ≡ with_status place status self.old }
+        ensures changed { result ≡ true → self.new ≡ with_status place status self.old }
+        ensures empty { result ≡ false → IsEmpty (with_status place status self.old) }
     {
-        match status {
-            Status::Waits => self.put_back(place),
-            Status::Asked(link) => self.note_asked(place, link),
-            Status::Settled => {
-                take_place(&mut self.asked, place);
-                self.settled_end = self.settled_end.max(place + 1);
+        match &mut self.form {
+            LaneForm::One(part) => match part.with_status(status) {
+                Some(changed) => {
+                    *part = changed;
+                    true
+                }
+                None => false,
+            },
+            LaneForm::Many(queues) => {
+                queues.change(place, status);
+                !queues.is_empty()
             }
-            Status::Unsent => {
-                take_place(&mut self.refused, place);
-                take_place(&mut self.later, place);
-            }
-        }
-    }
-
-    /// The first part that waits.
-    fn first_waiting(&self) -> Option<u64>
-        ensures first { IfSome result (λ place. IsFirst place self.now.waiting) }
-        ensures none { IfNone result ((place : ℕ) → In place self.now.waiting → ⊥) }
-    {
-        match self.refused.front() {
-            Some(place) => Some(*place),
-            None => Some(*self.later.front()?),
-        }
-    }
-
-    /// The first part that waits is on its way.
-    fn note_asked(&mut self, place: u64, link: usize)
-        requires { MayBecome place (Asked link) self.old }
-        ensures { self.new ≡ with_status place (Asked link) self.old }
-    {
-        take_first(&mut self.refused, &mut self.later);
-        self.asked.push_back_reserved(place);
-        self.link = link;
-    }
-
-    /// A part that is on its way waits again.
-    fn put_back(&mut self, place: u64)
-        requires { MayBecome place Waits self.old }
-        ensures { self.new ≡ with_status place Waits self.old }
-    {
-        take_place(&mut self.asked, place);
-        if self.asked.is_empty() {
-            move_before(&mut self.refused, &mut self.later);
-            put_place(&mut self.later, place);
-        } else {
-            put_place(&mut self.refused, place);
         }
     }
 }

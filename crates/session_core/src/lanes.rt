@@ -1,17 +1,17 @@
 //! The lanes of one caller, by slot.
 
-ghost use Rattle.std.specs.Prelude.{◌≡◌, ◌<◌, ◌≤◌, ℕ, true, [], None, Some, OnOk, OnErr, IfSome, IfNone};
-ghost use Rattle.std.specs.Ordering.{nat_cmp};
-ghost use Rattle.std.specs.BTreeMap.{get, UpdatesBy};
+ghost use Rattle.std.specs.Prelude.{◌≡◌, ◌<◌, ◌≤◌, ℕ, [], OnOk, OnErr, IfSome, IfNone};
 ghost use Rattle.session_core.specs.declared.part.PartOrder.TheVariants.{OfSlot};
 ghost use Rattle.session_core.specs.declared.ordered_part.Status.{Status};
 ghost use Rattle.session_core.specs.Inner.Lane.{In, joined, with_status, MayJoin, MayBecome, IsNext, IsLinkOf};
-ghost use Rattle.session_core.specs.Inner.Tied.{lane_of, Stepped, AreSame, IsEmpty};
+ghost use Rattle.session_core.specs.Inner.Tied.{lane_of, Stepped, AreSame};
 
-use crate::lane::{Lane, LaneAskable};
+use crate::lane::Lane;
+use crate::lane_part::{LaneAskable, LanePart};
 use crate::ordered_part::Status;
 use std::alloc::{AllocError, Global};
 use std::collections::BTreeMap;
+use std::collections::btree_map::Entry;
 
 /// The lanes of one caller, by slot. A slot without open parts has none.
 pub(crate) type Lanes = BTreeMap<u16, Lane>;
@@ -36,9 +36,12 @@ pub(crate) fn join(
     ensures joined { OnOk result (Stepped (OfSlot slot) (joined place) lanes.old.entries lanes.new.entries) }
     ensures err { OnErr result (AreSame lanes.old.entries lanes.new.entries) }
 {
-    match lanes.get_mut(&slot) {
-        Some(lane) => lane.join(place),
-        None => join_new(alloc, lanes, slot, place),
+    match lanes.entry(slot)? {
+        Entry::Occupied(lane) => lane.into_mut().join(alloc, place),
+        Entry::Vacant(vacant) => {
+            vacant.insert(Lane::new(LanePart::new(place)));
+            Ok(())
+        }
     }
 }
 
@@ -47,8 +50,10 @@ pub(crate) fn change(lanes: &mut Lanes, slot: u16, place: u64, status: Status)
     requires { MayBecome place status (lane_of slot lanes.old.entries) }
     ensures { Stepped (OfSlot slot) (with_status place status) lanes.old.entries lanes.new.entries }
 {
-    if change_slot(lanes, slot, place, status) {
-        lanes.remove(&slot);
+    if let Ok(Entry::Occupied(mut lane)) = lanes.entry(slot) {
+        if !lane.get_mut().change(place, status) {
+            lane.remove();
+        }
     }
 }
 
@@ -74,32 +79,5 @@ pub(crate) fn overtaken(lanes: &Lanes, slot: u16) -> Option<u64>
     match lanes.get(&slot) {
         Some(lane) => lane.overtaken(),
         None => None,
-    }
-}
-
-/// Adds a lane of one part.
-fn join_new(alloc: Global, lanes: &mut Lanes, slot: u16, place: u64) -> Result<(), AllocError>
-    requires { get nat_cmp lanes.old slot ≡ None }
-    ensures joined { OnOk result (Stepped (OfSlot slot) (joined place) lanes.old.entries lanes.new.entries) }
-    ensures err { OnErr result (AreSame lanes.old.entries lanes.new.entries) }
-{
-    let mut lane = Lane::new(alloc);
-    lane.join(place)?;
-    lanes.insert(slot, lane)?;
-    Ok(())
-}
-
-/// Returns whether the lane is empty now.
-fn change_slot(lanes: &mut Lanes, slot: u16, place: u64, status: Status) -> bool
-    requires { MayBecome place status (lane_of slot lanes.old.entries) }
-    ensures changed { UpdatesBy nat_cmp (nat_cmp slot) lanes.old lanes.new (Some (with_status place status (lane_of slot lanes.old.entries))) }
-    ensures empty { result ≡ true → IsEmpty (with_status place status (lane_of slot lanes.old.entries)) }
-{
-    match lanes.get_mut(&slot) {
-        Some(lane) => {
-            lane.change(place, status);
-            lane.is_empty()
-        }
-        None => false,
     }
 }

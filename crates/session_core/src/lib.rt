@@ -11,6 +11,8 @@
 mod buffer;
 mod heard;
 mod lane;
+mod lane_part;
+mod lane_queues;
 mod lanes;
 mod laws;
 mod link;

@@ -6,7 +6,8 @@ ghost use Rattle.session_core.specs.Inner.Lane.{In, joined, with_status, MayJoin
 ghost use Rattle.session_core.specs.Inner.Lone.{with_lone, IsApart};
 ghost use Rattle.session_core.specs.Inner.Tied.{lane_of, Stepped, AreSame};
 
-use crate::lane::LaneAskable;
+use crate::lane::Lane;
+use crate::lane_part::LaneAskable;
 use crate::lanes;
 use crate::lanes::Lanes;
 use crate::lone_part::LonePart;
@@ -78,7 +79,7 @@ impl OpenParts {
             self.lone = Some(LonePart::new(slot, place));
             return Ok(());
         }
-        enter_lanes(alloc, &mut self.lone, &mut self.lanes)?;
+        enter_lanes(&mut self.lone, &mut self.lanes)?;
         lanes::join(alloc, &mut self.lanes, slot, place)
     }
 
@@ -131,21 +132,16 @@ impl OpenParts {
 }
 
 /// Puts the part that stands alone into a lane, if there is one.
-fn enter_lanes(
-    alloc: Global,
-    lone: &mut Option<LonePart>,
-    lanes: &mut Lanes,
-) -> Result<(), AllocError>
+fn enter_lanes(lone: &mut Option<LonePart>, lanes: &mut Lanes) -> Result<(), AllocError>
     requires { IsApart lone.old lanes.old.entries }
     ensures entered { OnOk result (lone.new ≡ None) }
     ensures apart { IsApart lone.new lanes.new.entries }
     ensures same { AreSame (with_lone lone.old lanes.old.entries) (with_lone lone.new lanes.new.entries) }
 {
-    let Some(part) = *lone else {
+    let Some(LonePart { slot, part }) = *lone else {
         return Ok(());
     };
-    let lane = part.lane(alloc)?;
-    lanes.insert(part.slot, lane)?;
+    lanes.insert(slot, Lane::new(part))?;
     *lone = None;
     Ok(())
 }

@@ -18,5 +18,5 @@ returns-in-Some c =
     let none = subst (λ o. IsApart o c.self.inside.lanes.entries) c.in-Some.is c.self.invariant in
     subst (λ (ls : Lanes). Stepped c.args.order (with_status c.args.place c.args.status) ls (with_lone c.with_status-self-inside.result c.self.inside.lanes.entries)) view
     (subst (λ (n : ℕ). Stepped c.args.order (with_status n c.args.status) (alone c.in-Some.lone) (with_lone c.with_status-self-inside.result c.self.inside.lanes.entries)) b.1
-    (subst (λ (o : PartOrder). Stepped o (with_status c.in-Some.lone.place c.args.status) (alone c.in-Some.lone) (with_lone c.with_status-self-inside.result c.self.inside.lanes.entries)) (sym c.in-OfSlot.is)
+    (subst (λ (o : PartOrder). Stepped o (with_status c.in-Some.lone.part.place c.args.status) (alone c.in-Some.lone) (with_lone c.with_status-self-inside.result c.self.inside.lanes.entries)) (sym c.in-OfSlot.is)
     (lone_stepped c.in-OfSlot.slot c.args.status c.in-Some.lone c.with_status-self-inside.result c.self.inside.lanes.entries b.0 none c.with_status-self-inside.ensures.slot c.with_status-self-inside.ensures.some c.with_status-self-inside.ensures.none)))
