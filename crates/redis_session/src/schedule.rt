@@ -211,7 +211,7 @@ impl Schedule {
         self.callers.forget_idle(record.place);
     }
 
-    /// Notes that the last call that was added has begun. Its parts are to be asked in this step.
+    /// Notes that the last call that was added has begun.
     pub(crate) fn note_begun(&mut self) {
         let Some(call) = self.next_call().checked_sub(1) else {
             return;
@@ -220,12 +220,8 @@ impl Schedule {
             return;
         };
         let (place, count) = (record.place, record.part_count);
-        let first = record.first_part;
         self.part_count = self.part_count.saturating_add(count);
         self.note_last(place, call);
-        for number in first..first.saturating_add(count as u64) {
-            self.parts.push_back(&mut self.ready, Room::Ready, number);
-        }
     }
 
     /// Notes that a call is the last one of its caller.

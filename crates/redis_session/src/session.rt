@@ -310,6 +310,7 @@ impl Session {
         let call = self.begin_call(alloc, caller, request, deadline)?;
         // Its time may be over.
         self.end_late(alloc);
+        self.ask_call(alloc, call);
         // What finds no memory now is asked in a later step.
         let _ = self.step(alloc);
         Ok(call)

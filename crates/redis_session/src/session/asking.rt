@@ -48,7 +48,7 @@ impl Session {
     ghost use Rattle.redis_session.specs.SessionStates.{names};
     ghost use Rattle.redis_session.specs.Loads.{HasRoom, heavier};
 
-    /// Begins a call. Its parts are to be asked in this step.
+    /// Begins a call. Its parts wait for nothing that is known.
     pub(crate) fn begin_call(
         &mut self,
         alloc: Global,
@@ -248,6 +248,18 @@ impl Session {
         let nodes = self.directory.numbers(alloc, group)?;
         self.nodes.note_in_map(&nodes);
         Ok(nodes)
+    }
+
+    /// Asks the parts of a call that has just begun. Those that find no memory are to be asked in this step.
+    pub(crate) fn ask_call(&mut self, alloc: Global, call: u64)
+        ensures { Leads self.old self.new }
+    {
+        for part in 0..self.schedule.part_count(call) {
+            let seat = Seat { call, part };
+            if self.place(alloc, seat).is_err() {
+                self.schedule.push_back(seat, Room::Ready);
+            }
+        }
     }
 
     /// Asks the parts that are to be asked in this step.

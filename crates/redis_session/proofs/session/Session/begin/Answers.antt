@@ -11,5 +11,6 @@ returns-clause-begun c =
       adds = it.1;
       load = c.in_ok-call.ensures.load;
       errand = it.2;
-      leads = leads_on c.begin_call.new.self c.end_late.new.self c.step.new.self c.end_late.ensures c.step.ensures;
+      leads = leads_on c.begin_call.new.self c.end_late.new.self c.step.new.self c.end_late.ensures
+          (leads_on c.end_late.new.self c.ask_call.new.self c.step.new.self c.ask_call.ensures c.step.ensures);
     }
