@@ -1,7 +1,7 @@
 -- The reply to a call, by what was made of its parts.
-use Rattle.std.proofs.Common.{◌≡◌, ◌≢◌, ◌∙◌, ◌-◌, inl, inr, ℕ, true, false, List, [], ◌∷◌, Option, None, Some, Ok, Err, map, refl, sym, ap, subst, length, arith}
-use Rattle.std.specs.Prelude.{Result, IfOk, IfSome, MatchOption, nat_lt, if◌then◌else◌}
-use Rattle.std.specs.List.{concat, slice_get}
+use Rattle.std.proofs.Common.{Bool, not, ◌≡◌, ◌≢◌, ◌∙◌, ◌-◌, inl, inr, ℕ, true, false, List, [], ◌∷◌, Option, None, Some, Ok, Err, map, refl, sym, ap, subst, length, arith}
+use Rattle.std.specs.Prelude.{Result, IfNone, IfOk, IfSome, MatchOption, nat_lt, if◌then◌else◌}
+use Rattle.std.specs.List.{concat, list_all, slice_get}
 use Rattle.std.specs.Option.{option_and_then, option_map}
 use Rattle.std.specs.declared.vec.Vec.{Vec}
 use Rattle.std.specs.declared.alloc.Global.{Global}
@@ -12,11 +12,13 @@ use Rattle.redis_bytes.specs.Replies.{AreCombined, IsUncombined}
 use Rattle.redis_bytes.specs.Requests.{IsSplitRequest}
 use Rattle.redis_bytes.specs.declared.fault.BytesFault.{BytesFault}
 use Rattle.redis_bytes.specs.declared.fault.BytesFault.TheVariants.{Memory}
-use Rattle.session_core.specs.Part.{Phase, PartState, Waits, Asked, Answered, Lost, Refused, Unsent}
-use Rattle.session_core.specs.State.{CallState, State, Finish, Happens, after, call_after, call_at, numbered, part_at}
+use Rattle.resp_core.proofs.Cases.{and_first, and_second}
+use Rattle.session_core.specs.Part.{Phase, PartState, Waits, Asked, Answered, Lost, Refused, Unsent, is_done, is_waiting}
+use Rattle.session_core.specs.State.{CallState, State, Finish, Happens, IsTurn, MayFinish, after, call_after, call_at, numbered, part_at}
 use Rattle.session_core.proofs.AfterEvents.{slice_get-numbered}
 use Rattle.redis_session.specs.CallReplies.{GivesBytes, IsErrorFor, IsMadeBy, IsOnly, IsReplyOfNodes, IsReplyTo, IsSplitReply, answers_in, cause_of, effect_on, first_unanswered}
-use Rattle.redis_session.specs.Leads.{Finishes, IsInTime}
+use Rattle.redis_session.specs.Due.{IsDone}
+use Rattle.redis_session.specs.Leads.{Finishes, IsInTime, MayGive, WaitsForNothing}
 use Rattle.redis_session.specs.Rules.{KeptRules, rule_in, without}
 use Rattle.redis_session.specs.SessionStates.{Given, Nothing, OfPart, Bytes, SessionState, answer_in, bytes_of, given_of, names}
 use Rattle.redis_session.specs.SplitReplies.{first_error, joined}
@@ -193,3 +195,81 @@ finishes_by caller call old now machine left reply owed state same at its happen
       reply_is = subst (IsReplyTo (names old) (rule_in old.rules call) state.parts) (sym bytes) it;
       others = ap (λ (kept : KeptRules). record old { machine = machine; rules = kept; given = given_of reply }) forgets;
     })
+
+-- ---- calls whose reply may be given
+
+done_waits_not : (parts : List PartState) → list_all (λ p. is_done p.phase) parts ≡ true → list_all (λ p. not (is_waiting p.phase)) parts ≡ true
+done_waits_not [] done = refl
+done_waits_not (p ∷ parts) done =
+    let here = and_first (is_done p.phase) (list_all (λ q. is_done q.phase) parts) done in
+    let rest = and_second (is_done p.phase) (list_all (λ q. is_done q.phase) parts) done in
+    rw (one p.phase here, done_waits_not parts rest) refl
+  where
+    one : (phase : Phase) → is_done phase ≡ true → not (is_waiting phase) ≡ true
+    one (Waits left) done = done
+    one other done = refl
+
+-- each part of the call is done
+pub over_done : (call : ℕ) (old now : SessionState) (state : CallState) → old ≡ now → call_at call old.machine ≡ Some state → list_all (λ p. is_done p.phase) state.parts ≡ true
+    → IsInTime call now × WaitsForNothing call now.machine
+over_done call old now state same at done = (
+  λ other is. inl (subst (λ (x : CallState). list_all (λ p. is_done p.phase) x.parts ≡ true) (there other is) done),
+  λ other is. subst (λ (x : CallState). list_all (λ p. not (is_waiting p.phase)) x.parts ≡ true) (there other is) (done_waits_not state.parts done),
+)
+  where
+    there : (other : CallState) → call_at call now.machine ≡ Some other → state ≡ other
+    there other is = same_Some state other (sym at ∙ ap (λ (s : SessionState). call_at call s.machine) same ∙ is)
+
+-- the reply is there
+pub may_give : (caller call : ℕ) (s : SessionState) → IsDone caller call s.machine → MayGive caller call s
+may_give caller call s it = record {
+  state = it.state;
+  may = record {
+    call_is = it.call_is;
+    wanted = it.wanted;
+    none_waits = done_waits_not it.state.parts it.done;
+    turn = subst (λ c. IsTurn s.machine c call) (sym it.caller_is) it.turn;
+  };
+  caller_is = it.caller_is;
+  in_time = λ state at. inl (subst (λ (x : CallState). list_all (λ p. is_done p.phase) x.parts ≡ true) (same_Some it.state state (sym it.call_is ∙ at)) it.done);
+}
+
+-- it is the turn of the call, and nothing is awaited for it
+pub may_give_late : (caller call : ℕ) (old now : SessionState) → old ≡ now
+    → (state : CallState) × (call_at call old.machine ≡ Some state) × (state.caller ≡ caller) × (state.is_wanted ≡ true) × IsTurn old.machine caller call
+    → IsInTime call now × WaitsForNothing call now.machine → MayGive caller call now
+may_give_late caller call old now same was over =
+    let next : (state : CallState) × (call_at call now.machine ≡ Some state) × (state.caller ≡ caller) × (state.is_wanted ≡ true) × IsTurn now.machine caller call =
+    subst (λ (s : SessionState). (state : CallState) × (call_at call s.machine ≡ Some state) × (state.caller ≡ caller) × (state.is_wanted ≡ true) × IsTurn s.machine caller call) same was in
+    record {
+      state = next.0;
+      may = record {
+        call_is = next.1;
+        wanted = next.3;
+        none_waits = over.1 next.0 next.1;
+        turn = subst (λ c. IsTurn now.machine c call) (sym next.2) next.4;
+      };
+      caller_is = next.2;
+      in_time = over.0;
+    }
+
+-- it is given
+finished : (call : ℕ) (state : CallState) (old new : State) (answer : Bool) → MayFinish call state old → (answer ≡ true → (state : CallState) × Happens old (Finish call state) new)
+    → (answer ≡ false → (state : CallState) → MayFinish call state old → ⊥) → (state : CallState) × Happens old (Finish call state) new
+finished call state old new true may does why = does refl
+finished call state old new false may does why = absurd (why refl state may)
+
+pub gives_by : (caller call : ℕ) (old now : SessionState) (machine : State) (left : KeptRules) (reply : LastReply) (answer : Bool) → old ≡ now → MayGive caller call now
+    → (answer ≡ true → (state : CallState) × Happens old.machine (Finish call state) machine) → (answer ≡ false → (state : CallState) → MayFinish call state old.machine → ⊥)
+    → left ≡ without call old.rules → HasReply now call reply → Finishes caller call now (record old { machine = machine; rules = left; given = given_of reply })
+gives_by caller call old now machine left reply answer same gives does why forgets made =
+    let was : MayGive caller call old = subst (MayGive caller call) (sym same) gives in
+    let done = finished call was.state old.machine machine answer was.may does why in
+    finishes_by caller call old now machine left reply was.state done.0 same was.may.call_is was.caller_is done.1 forgets gives.in_time made
+
+-- Without a reply that is there, maybe one is given to a call whose time is over.
+pub late_all : {E : Type 0} (mid new : SessionState) (result : Result (Option (ℕ × ℕ)) E) → ((caller call : ℕ) → IsDone caller call mid.machine → ⊥)
+    → IfOk result (λ next. IfNone next (new ≡ mid)) → IfOk result (λ next. IfNone next ((caller call : ℕ) → IsDone caller call new.machine → ⊥))
+late_all mid new (Ok None) all same = λ caller call it. all caller call (subst (λ (s : SessionState). IsDone caller call s.machine) same it)
+late_all mid new (Ok (Some it)) all same = tt
+late_all mid new (Err y) all same = tt

@@ -1,5 +1,6 @@
 mod AddedRows
 pub mod Begins
+pub mod DoneReplies
 mod Elements
 pub mod GivenReplies
 mod KeptDeadlines

@@ -1,5 +1,5 @@
 -- What a session does by itself, between what its shell reports.
-use Rattle.std.specs.Prelude.{◌≡◌, ◌≢◌, ◌⊎◌, ◌++◌, ◌∷◌, [], ℕ, zero, suc, max, List, Bool, true, false, Option, None, Some, ◌||◌, ◌==◌, codes, length, slice_get}
+use Rattle.std.specs.Prelude.{◌≡◌, ◌≢◌, ◌⊎◌, ◌++◌, ◌∷◌, [], ℕ, zero, suc, max, List, Bool, true, false, Option, None, Some, ◌||◌, ◌==◌, codes, length, not, slice_get}
 use Rattle.std.specs.List.{list_all}
 use Rattle.session_core.specs.declared.link.Standing.{Standing}
 use Rattle.session_core.specs.declared.part.Cause.{Cause}
@@ -11,8 +11,8 @@ use Rattle.session_core.specs.declared.link.Ticket.{Ticket}
 use Rattle.session_core.specs.declared.link.Ticket.TheVariants.{Login, Map, Part}
 use Rattle.session_core.specs.Channel.{Ask, Channel}
 use Rattle.session_core.specs.LinkEvents as link
-use Rattle.session_core.specs.State.{CallState, Event, Open, On, Forget, Begin, GiveUp, End, Finish, Leave, Trim, Happens, IsLink, call_at, part_at}
-use Rattle.session_core.specs.Part.{PartState, is_done}
+use Rattle.session_core.specs.State.{CallState, Event, Open, On, Forget, Begin, GiveUp, End, Finish, Leave, Trim, Happens, IsLink, MayFinish, State, call_at, part_at}
+use Rattle.session_core.specs.Part.{PartState, is_done, is_waiting}
 use Rattle.session_machine.specs.declared.took.Took.{Took}
 use Rattle.cluster_slots.specs.Address.{Address}
 use Rattle.redis_session.specs.Asks.{Asks, KeepsOtherAsks, asked_node}
@@ -264,6 +264,18 @@ pub record BeginsCall (caller : ℕ) (request : List ℕ) (deadline call : ℕ) 
 abbrev pub IsInTime : ℕ → SessionState → Type 0
 IsInTime call s = (state : CallState) → call_at call s.machine ≡ Some state
     → (list_all (λ p. is_done p.phase) state.parts ≡ true) ⊎ (is_over (deadline_of call s.deadlines) s.now ≡ true)
+
+-- No part of a call waits to be asked.
+abbrev pub WaitsForNothing : ℕ → State → Type 0
+WaitsForNothing call s = (state : CallState) → call_at call s ≡ Some state
+    → list_all (λ p. not (is_waiting p.phase)) state.parts ≡ true
+
+-- The reply to this call may go to this caller.
+pub record MayGive (caller call : ℕ) (s : SessionState) : Type 0 where
+  pub state : CallState
+  pub may : MayFinish call state s.machine
+  pub caller_is : state.caller ≡ caller
+  pub in_time : IsInTime call s
 
 -- The session gives this caller the reply to this call. Its turn has come: the caller is owed no reply to an earlier
 -- call. Each part is done, or the time of the call is over. The bytes of the reply are those that the call's own rule makes of the answers to its own parts.

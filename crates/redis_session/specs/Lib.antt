@@ -12,6 +12,7 @@ pub mod CallReplies
 pub mod CommandKinds
 pub mod Deadlines
 pub mod Directory
+pub mod Due
 pub mod Inner
 pub mod Leads
 pub mod Learned

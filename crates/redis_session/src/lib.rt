@@ -28,6 +28,8 @@ mod added;
 mod asks;
 mod call_deadlines;
 mod directory;
+mod due;
+mod due_machine;
 mod kind;
 mod load;
 mod nodes;

@@ -1,10 +1,10 @@
-//! What each part of a call waits for, and which calls are due. Lists go through the records of the parts and of the
+//! What each part of a call waits for, and which calls are overdue. Lists go through the records of the parts and of the
 //! calls, so that to move a part takes no memory.
 
 mod callers;
 mod deadlines;
-mod due;
 mod lists;
+mod overdue;
 mod parts;
 
 use crate::schedule::callers::{Callers, NOWHERE};
@@ -87,7 +87,7 @@ pub(crate) struct CallRecord {
     has_left: bool,
 }
 
-/// What each part waits for, and which calls are due.
+/// What each part waits for, and which calls are overdue.
 #[derive(Drop)]
 pub(crate) struct Schedule {
     /// The number of the first call that is kept.
@@ -107,9 +107,9 @@ pub(crate) struct Schedule {
     last_rising: u64,
     /// The deadlines of the other calls that are owed a reply, with their numbers.
     other_deadlines: BTreeSet<(u64, u64)>,
-    /// The places of the callers whose next reply may be there, in a list through their records.
-    first_due: usize,
-    last_due: usize,
+    /// The places of the callers whose next call may be late, in a list through their records.
+    first_overdue: usize,
+    last_overdue: usize,
     /// How many parts the calls have that began and did not leave.
     part_count: usize,
 }
@@ -130,8 +130,8 @@ impl Schedule {
             first_rising: NO_CALL,
             last_rising: NO_CALL,
             other_deadlines: BTreeSet::new(alloc),
-            first_due: NOWHERE,
-            last_due: NOWHERE,
+            first_overdue: NOWHERE,
+            last_overdue: NOWHERE,
             part_count: 0,
         }
     }
@@ -146,7 +146,7 @@ impl Schedule {
         self.calls.len()
     }
 
-    /// How many steps a walk over the due callers takes at most.
+    /// How many steps a walk over the overdue callers takes at most.
     pub(crate) fn most_callers(&self) -> usize {
         self.callers.place_count().saturating_add(1)
     }

@@ -10,6 +10,7 @@ mod taking;
 use crate::asks::Asks;
 use crate::call_deadlines::CallDeadlines;
 use crate::directory::Directory;
+use crate::due_machine::DueMachine;
 use crate::load::Load;
 use crate::nodes::{NodeLink, Nodes};
 use crate::peers::Peers;
@@ -20,7 +21,6 @@ use crate::session::replying::LastReply;
 use crate::settings::Settings;
 use cluster_map::NodeAddress;
 use session_core::{Seat, Standing};
-use session_machine::Machine;
 use std::alloc::{AllocError, Global};
 use std::marker::Model;
 
@@ -28,7 +28,7 @@ use std::marker::Model;
 /// together.
 #[derive(Drop)]
 pub struct Session {
-    pub(crate) machine: Machine,
+    pub(crate) machine: DueMachine,
     pub(crate) rules: Rules,
     pub(crate) directory: Directory,
     pub(crate) peers: Peers,
@@ -76,7 +76,7 @@ impl Session {
         ensures { result ≡ new_session (settings_of settings) }
     {
         Session {
-            machine: Machine::new(alloc),
+            machine: DueMachine::new(alloc),
             rules: Rules::new(alloc),
             directory: Directory::new(alloc),
             peers: Peers::new(alloc),

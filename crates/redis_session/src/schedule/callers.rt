@@ -1,4 +1,4 @@
-//! The callers that have calls or are due.
+//! The callers that have calls or are overdue.
 
 use super::parts::{NO_PARTS, PartList};
 use std::alloc::{AllocError, Global};
@@ -19,14 +19,14 @@ pub(crate) struct CallerRecord {
     /// If a call of it is kept, the first and the last one.
     pub(crate) first: u64,
     pub(crate) last: u64,
-    /// The place of the next due caller, or that of the next free place.
+    /// The place of the next overdue caller, or that of the next free place.
     pub(crate) next: usize,
     /// Whether a call of it is kept.
     pub(crate) has_calls: bool,
-    pub(crate) is_due: bool,
+    pub(crate) is_overdue: bool,
 }
 
-/// The callers, by places that stay while they have calls or are due. A place is found by a number in constant time if
+/// The callers, by places that stay while they have calls or are overdue. A place is found by a number in constant time if
 /// that is small, and else in logarithmic time.
 #[derive(Drop)]
 pub(crate) struct Callers {
@@ -79,12 +79,12 @@ impl Callers {
         Ok(place)
     }
 
-    /// Forgets a caller that has no calls and is not due.
+    /// Forgets a caller that has no calls and is not overdue.
     pub(crate) fn forget_idle(&mut self, place: usize) {
         let Some(record) = self.records.get_mut(place) else {
             return;
         };
-        if record.has_calls || record.is_due {
+        if record.has_calls || record.is_overdue {
             return;
         }
         record.next = self.first_free;
@@ -156,7 +156,7 @@ impl CallerRecord {
             last: 0,
             next: NOWHERE,
             has_calls: false,
-            is_due: false,
+            is_overdue: false,
         }
     }
 }

@@ -63,13 +63,14 @@ impl LastReply {
 }
 
 impl Session {
-    ghost use Rattle.std.specs.Prelude.{IfSome, IfNone, OnErr, true};
+    ghost use Rattle.std.specs.Prelude.{ℕ, IfSome, IfNone, OnOk, OnErr, true};
     ghost use Rattle.session_core.specs.State.{CallState};
     ghost use Rattle.redis_routing.specs.Names.{names_in};
     ghost use Rattle.redis_session.specs.CallReplies.{IsReplyTo, IsSplitReply};
+    ghost use Rattle.redis_session.specs.Due.{IsDone};
     ghost use Rattle.redis_session.specs.Rules.{rule_in};
     ghost use Rattle.redis_session.specs.SessionStates.{last_reply, names, without_reply};
-    ghost use Rattle.redis_session.specs.Leads.{Finishes, GivesReply, IsInTime, Leads};
+    ghost use Rattle.redis_session.specs.Leads.{Finishes, GivesReply, IsInTime, Leads, MayGive, WaitsForNothing};
 
     /// The caller and the call of the next reply, if one is there. [`Session::reply`] has its bytes up to the next
     /// call of this function.
@@ -82,20 +83,41 @@ impl Session {
         ensures given { IfOk result (λ next. IfSome next (λ it. GivesReply it.0 it.1 self.old self.new)) }
         // Without a reply, none goes out.
         ensures none { IfOk result (λ next. IfNone next (Leads (without_reply self.old) self.new)) }
+        // Without a reply, there is none to a call whose parts are done.
+        ensures all { IfOk result (λ next. IfNone next ((caller call : ℕ)
+            → IsDone caller call self.new.machine → ⊥)) }
         ensures err { OnErr result (Leads (without_reply self.old) self.new) }
     {
         self.is_reply_behind = false;
         self.forget_reply(alloc);
+        for _ in 0..MOST_FAILURES {
+            let Some((caller, call)) = self.machine.first_due() else {
+                return self.next_late(alloc);
+            };
+            if self.give(alloc, caller, call).is_ok() {
+                return Ok(Some((caller, call)));
+            }
+            self.machine.turn_due();
+        }
+        Err(AllocError)
+    }
+
+    /// Gives the next reply to a call whose time is over while parts of it are on their way, if there is one.
+    fn next_late(&mut self, alloc: Global) -> Result<Option<(u64, u64)>, AllocError>
+        ensures given { IfOk result (λ next. IfSome next (λ it. Finishes it.0 it.1 self.old self.new)) }
+        ensures none { IfOk result (λ next. IfNone next (self.new ≡ self.old)) }
+        ensures err { OnErr result (self.new ≡ self.old) }
+    {
         let mut left = MOST_FAILURES;
         for _ in 0..self.schedule.most_callers() {
-            let Some(caller) = self.schedule.first_due() else {
+            let Some(caller) = self.schedule.first_overdue() else {
                 break;
             };
-            match self.give_next(alloc, caller) {
+            match self.give_late(alloc, caller) {
                 Ok(Some(call)) => return Ok(Some((caller, call))),
-                Ok(None) => self.schedule.drop_due(),
+                Ok(None) => self.schedule.drop_overdue(),
                 Err(_) => {
-                    self.schedule.turn_due();
+                    self.schedule.turn_overdue();
                     left = left.saturating_sub(1);
                 }
             }
@@ -140,7 +162,7 @@ impl Session {
 
     /// Whether nothing is awaited for a call: its parts are done, or its time is over.
     fn is_over(&self, call: u64) -> bool
-        ensures { result ≡ true → IsInTime call self.entry.now }
+        ensures { result ≡ true → IsInTime call self.entry.now × WaitsForNothing call self.entry.now.machine }
     {
         let Some(state) = self.machine.call(call) else {
             return false;
@@ -151,8 +173,8 @@ impl Session {
         state.has_none_waiting() && self.deadlines.is_over(call, self.now)
     }
 
-    /// Gives a caller its next reply, if it is there. Returns the call that it is for.
-    fn give_next(&mut self, alloc: Global, caller: u64) -> Result<Option<u64>, AllocError>
+    /// Gives a caller its next reply, if the time of its call is over. Returns the call that it is for.
+    fn give_late(&mut self, alloc: Global, caller: u64) -> Result<Option<u64>, AllocError>
         ensures given { IfOk result (λ next. IfSome next (λ call. Finishes caller call self.old self.new)) }
         ensures none { IfOk result (λ next. IfNone next (self.new ≡ self.old)) }
         ensures err { OnErr result (self.new ≡ self.old) }
@@ -163,6 +185,20 @@ impl Session {
         if !self.is_over(call) {
             return Ok(None);
         }
+        self.give(alloc, caller, call)?;
+        Ok(Some(call))
+    }
+
+    /// Gives a caller its next reply, to a call for which nothing is awaited.
+    ///
+    /// # Errors
+    ///
+    /// If memory runs out. No reply is given then.
+    fn give(&mut self, alloc: Global, caller: u64, call: u64) -> Result<(), AllocError>
+        requires { MayGive caller call self.old }
+        ensures given { OnOk result (Finishes caller call self.old self.new) }
+        ensures err { OnErr result (self.new ≡ self.old) }
+    {
         let reply = match self.reply_of(alloc, call) {
             Ok(reply) => reply,
             Err(error) => {
@@ -170,13 +206,27 @@ impl Session {
                 return Err(error);
             }
         };
-        if !self.machine.finish(call) {
-            return Ok(None);
-        }
+        self.machine.finish(call);
         self.rules.remove(call);
         self.schedule.drop_deadline(call);
         self.reply = reply;
-        Ok(Some(call))
+        self.note_overdue(caller);
+        Ok(())
+    }
+
+    /// Notes that the next reply of a caller is there, if the time of its call is over.
+    pub(crate) fn note_overdue(&mut self, caller: u64)
+        ensures { self.new ≡ self.old }
+    {
+        let Some(next) = self.machine.next_call(caller) else {
+            return;
+        };
+        if !self.schedule.is_late(next) {
+            return;
+        }
+        if let Some(place) = self.schedule.place_of(next) {
+            self.schedule.note_overdue(place);
+        }
     }
 
     /// The reply to a call whose parts are as they are.

@@ -428,7 +428,7 @@ impl Session {
         }
     }
 
-    /// Notes that a part is done: those that waited for it may be asked, and the reply may be there.
+    /// Notes that a part is done: those that waited for it may be asked.
     pub(crate) fn note_done(&mut self, alloc: Global, seat: Seat)
         ensures { Leads self.old self.new }
     {
@@ -458,7 +458,6 @@ impl Session {
         ensures { Leads self.old self.new }
     {
         self.release_barred(place);
-        self.schedule.note_due(place);
         self.leave_calls(alloc, place);
     }
 
@@ -678,7 +677,7 @@ impl Session {
         self.deadlines.is_over(call, self.now) || self.rules.is_several(call)
     }
 
-    /// Notes that no part of a call waits any more.
+    /// Notes that no part of a call waits any more: its time is over, or nobody waits for its reply.
     pub(crate) fn note_over(&mut self, alloc: Global, call: u64)
         ensures { Leads self.old self.new }
     {
@@ -686,9 +685,11 @@ impl Session {
         else {
             return;
         };
+        let caller = record.caller();
         for part in 0..record.part_count() {
             self.release_behind(Seat { call, part });
         }
+        self.note_overdue(caller);
         self.note_settled(alloc, place);
     }
 

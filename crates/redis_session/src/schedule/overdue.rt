@@ -1,4 +1,4 @@
-//! Which calls are due: those whose time is over, and those whose reply may be next.
+//! Which calls are overdue: their time is over, and their reply may be next.
 
 use super::callers::NOWHERE;
 use super::{CallRecord, DeadlineRoom, NO_CALL, NewCall, Schedule};
@@ -73,50 +73,50 @@ impl Schedule {
         }
     }
 
-    /// Notes that the next reply of the caller at a place may be there.
-    pub(crate) fn note_due(&mut self, place: usize) {
+    /// Notes that the next call of the caller at a place is late.
+    pub(crate) fn note_overdue(&mut self, place: usize) {
         let Some(record) = self.callers.get_mut(place) else {
             return;
         };
-        if record.is_due {
+        if record.is_overdue {
             return;
         }
-        record.is_due = true;
+        record.is_overdue = true;
         record.next = NOWHERE;
-        match self.callers.get_mut(self.last_due) {
+        match self.callers.get_mut(self.last_overdue) {
             Some(last) => last.next = place,
-            None => self.first_due = place,
+            None => self.first_overdue = place,
         }
-        self.last_due = place;
+        self.last_overdue = place;
     }
 
-    /// The first caller whose next reply may be there.
-    pub(crate) fn first_due(&self) -> Option<u64> {
-        Some(self.callers.get(self.first_due)?.number)
+    /// The first caller whose next call may be late.
+    pub(crate) fn first_overdue(&self) -> Option<u64> {
+        Some(self.callers.get(self.first_overdue)?.number)
     }
 
-    /// Notes that the first due caller has no reply to get now. If no call of it is kept, it is forgotten.
-    pub(crate) fn drop_due(&mut self) {
-        if let Some(place) = self.pop_due() {
+    /// Notes that the first overdue caller has no reply to get now. If no call of it is kept, it is forgotten.
+    pub(crate) fn drop_overdue(&mut self) {
+        if let Some(place) = self.pop_overdue() {
             self.callers.forget_idle(place);
         }
     }
 
-    /// Puts the first due caller behind the other ones.
-    pub(crate) fn turn_due(&mut self) {
-        if let Some(place) = self.pop_due() {
-            self.note_due(place);
+    /// Puts the first overdue caller behind the other ones.
+    pub(crate) fn turn_overdue(&mut self) {
+        if let Some(place) = self.pop_overdue() {
+            self.note_overdue(place);
         }
     }
 
-    /// Takes the first due caller out of the list. Returns its place.
-    fn pop_due(&mut self) -> Option<usize> {
-        let place = self.first_due;
+    /// Takes the first overdue caller out of the list. Returns its place.
+    fn pop_overdue(&mut self) -> Option<usize> {
+        let place = self.first_overdue;
         let record = self.callers.get_mut(place)?;
-        record.is_due = false;
-        self.first_due = record.next;
-        if self.first_due == NOWHERE {
-            self.last_due = NOWHERE;
+        record.is_overdue = false;
+        self.first_overdue = record.next;
+        if self.first_overdue == NOWHERE {
+            self.last_overdue = NOWHERE;
         }
         Some(place)
     }
@@ -149,20 +149,13 @@ impl Schedule {
     }
 
     /// Sets the first call that is kept of the caller at a place. If there is none, the caller is forgotten, unless it
-    /// is among the due ones, of which it may be the first.
+    /// is among the overdue ones.
     fn set_first_call(&mut self, place: usize, call: u64) {
         let Some(record) = self.callers.get_mut(place) else {
             return;
         };
         record.first = call;
         record.has_calls = call != NO_CALL;
-        if record.has_calls {
-            return;
-        }
-        if self.first_due == place {
-            self.drop_due();
-            return;
-        }
         self.callers.forget_idle(place);
     }
 
