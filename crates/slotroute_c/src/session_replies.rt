@@ -1,4 +1,5 @@
-ghost use Rattle.std.specs.Prelude.{◌≡◌, ◌≢◌, ◌<◌, ◌≤◌, ◌∷◌, [], IsTrue, drop, length};
+ghost use Rattle.std.specs.Prelude.{◌≡◌, ◌≢◌, ◌<◌, ◌≤◌, ◌∷◌, ℕ, [], IsTrue, drop, length};
+ghost use Rattle.redis_session.specs.Due.{IsDone};
 ghost use Rattle.redis_session.specs.Leads.{GivesReply, Leads};
 ghost use Rattle.redis_session.specs.SessionStates.{last_reply, without_reply};
 ghost use Rattle.redis_session.specs.Refusals.{refusal_reply};
@@ -42,6 +43,9 @@ pub extern "C" fn slotroute_session_next_reply(
     // Without a reply, none goes out.
     ensures leads { result ≢ code Outcome.Done
         → Leads (without_reply session.old.value) session.new.value }
+    // If none is there, there is none to a call whose parts are done.
+    ensures all { result ≡ code Outcome.NotThere → (caller call : ℕ)
+        → IsDone caller call session.new.value.machine → ⊥ }
     ensures len { result ≡ code Outcome.Done
         → reply.new.bytes ≡ length (last_reply session.new.value) }
     ensures unwritten { result ≢ code Outcome.Done → reply.new ≡ reply.old }
